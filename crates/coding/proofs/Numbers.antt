@@ -1,0 +1,48 @@
+-- A refusal's number tells it apart from all others. Assumes nothing.
+use mathlib.Core.Path.{_≡_, refl, sym, ap, _∙_}
+use Prim.Native.Nat.{ℕ}
+use mathlib.Core.Bool.{cond}
+use lib.Dec.{eqb}
+use Rattle.coding.specs.Refusals.{numberOf}
+use Rattle.coding.specs.declared.refusal.Refusal.{Refusal}
+use Rattle.coding.specs.declared.refusal.Refusal.the-variants as ref
+
+-- the refusal of a number
+abbrev pub refusalOf : ℕ → Refusal
+refusalOf n =
+    cond (eqb n 1) ref.PacketEnd
+    (cond (eqb n 2) ref.FixedBit
+    (cond (eqb n 3) ref.Cid
+    (cond (eqb n 4) ref.Version
+    (cond (eqb n 5) ref.Token
+    (cond (eqb n 6) ref.ShortCid
+    (cond (eqb n 7) ref.Length
+    (cond (eqb n 8) ref.Sample
+    (cond (eqb n 9) ref.Number
+    (cond (eqb n 10) ref.UnexpectedEnd
+    (cond (eqb n 11) ref.InvalidFrameId
+    (cond (eqb n 12) ref.Malformed
+    (cond (eqb n 13) ref.NoFrames
+    (cond (eqb n 14) ref.Argument
+    (cond (eqb n 15) ref.Room ref.TooFar))))))))))))))
+
+pub refusal-back : (r : Refusal) → refusalOf (numberOf r) ≡ r
+refusal-back ref.PacketEnd = refl
+refusal-back ref.FixedBit = refl
+refusal-back ref.Cid = refl
+refusal-back ref.Version = refl
+refusal-back ref.Token = refl
+refusal-back ref.ShortCid = refl
+refusal-back ref.Length = refl
+refusal-back ref.Sample = refl
+refusal-back ref.Number = refl
+refusal-back ref.UnexpectedEnd = refl
+refusal-back ref.InvalidFrameId = refl
+refusal-back ref.Malformed = refl
+refusal-back ref.NoFrames = refl
+refusal-back ref.Argument = refl
+refusal-back ref.Room = refl
+refusal-back ref.TooFar = refl
+
+pub one-refusal : (r s : Refusal) → numberOf r ≡ numberOf s → r ≡ s
+one-refusal r s e = sym (refusal-back r) ∙ ap refusalOf e ∙ refusal-back s
