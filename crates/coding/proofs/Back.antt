@@ -1,17 +1,18 @@
 -- What is written is read back, wherever it stands. Assumes nothing.
-use mathlib.Core.Path.{_≡_, refl, sym, ap, _∙_}
-use mathlib.Core.List.{List, [], _∷_, _++_, append-assoc}
+use mathlib.Core.Path.{_≡_, refl, ap, _∙_}
+use mathlib.Core.List.{List, _∷_, _++_, append-assoc}
 use Prim.Native.Nat.{ℕ, zero, suc, _+_, _-_, _*_, _/_, _%_, _^_, _≤_, _<_}
-use native.Mathlib.Nat.{pow-succ', one-le-pow, mul-assoc, mul-add-div-right, mul-add-mod-self-right, div-lt-iff-lt-mul, div-add-mod', mod-lt}
+use native.Mathlib.Nat.{pow-succ', one-le-pow, mul-assoc, mul-add-div-right, mul-add-mod-self-right, div-lt-iff-lt-mul, div-add-mod'}
 use native.Mathlib.Omega.{arith}
 use lib.Arith.{mod-mul}
 use lib.Dec.{ltb, leb}
-use lib.ListN.{length, take, drop, getD, length-append, take-append-drop}
+use lib.ListN.{length, take, drop, getD, length-append}
 use lib.Seq.{getD-append-seam, drop-append-add, take-at, drop-at, length-take-le}
 use borrow.Author.Tests.{lt-ltb, le-leb}
 use mathlib.Core.Bool.{true}
-use Rattle.coding.specs.Words.{if_then_else_, Got, got}
-use Rattle.coding.specs.Bytes.{byteAt, be, bytesBE, splice}
+use Rattle.coding.specs.Words.{if_then_else_, got}
+use Rattle.coding.specs.Bytes.{be, bytesBE, splice}
+use Rattle.coding.specs.Places.{partOf}
 use Rattle.coding.specs.Reading.{fixedAt, takeAt}
 use Rattle.coding.specs.Varint.{varLen, varAt, varTag, varSize, varBytes}
 use Rattle.coding.proofs.Laws.{length-bytesBE, fits-tag, low-bits}
@@ -37,6 +38,23 @@ fixed-back p q n x =
     let all : length (p ++ (bs ++ q)) ≡ length p + (length bs + length q) = simp length-append in
     let i : leb (length p + n) (length (p ++ (bs ++ q))) ≡ true = le-leb (length p + n) (length (p ++ (bs ++ q))) (omega arith) in
     rw (i, d, t, be-bytes n 0 x) (ap (λ (v : ℕ). got v (length p + n)) (omega arith))
+
+-- ---- bytes put somewhere lie in the place that is taken there
+
+module _ (p bs q : List ℕ) where
+  all : length (p ++ (bs ++ q)) ≡ length p + (length bs + length q)
+  all = simp length-append
+
+  pub take-back : takeAt (length bs) (p ++ (bs ++ q)) (length p) ≡ got (record { start = length p; len = length bs }) (length p + length bs)
+  unfolding takeAt if_then_else_
+  take-back = rw (le-leb (length p + length bs) (length (p ++ (bs ++ q))) (omega (arith, all)))
+
+  pub part-back : partOf (p ++ (bs ++ q)) (record { start = length p; len = length bs }) ≡ bs
+  unfolding partOf if_then_else_
+  part-back =
+      let i : leb (length p + length bs) (length (p ++ (bs ++ q))) ≡ true = le-leb (length p + length bs) (length (p ++ (bs ++ q))) (omega (arith, all)) in
+      let d : drop (length p) (p ++ (bs ++ q)) ≡ bs ++ q = drop-at p (bs ++ q) (length p) refl in
+      simp (i, d) (take-at bs q (length bs) refl)
 
 -- ---- an integer
 

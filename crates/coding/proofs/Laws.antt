@@ -1,9 +1,9 @@
 -- Laws of the definitions, for this crate's proofs and those above it. Assumes nothing.
-use mathlib.Core.Path.{_≡_, refl, sym, ap, _∙_}
-use mathlib.Core.List.{List, [], _∷_, _++_, append-assoc, append-nil}
+use mathlib.Core.Path.{_≡_, refl, sym, ap}
+use mathlib.Core.List.{List, [], _∷_, _++_, append-assoc}
 use mathlib.Core.Bool.{Bool, true, false}
 use Prim.Native.Nat.{ℕ, zero, suc, _+_, _-_, _*_, _/_, _%_, _^_, _≤_, _<_}
-use native.Mathlib.Nat.{add-assoc, pow-succ', mul-assoc, pow-le-pow-right, one-le-pow, le-trans, lt-of-lt-of-le, mul-le-mul-left}
+use native.Mathlib.Nat.{add-assoc, pow-succ', mul-assoc, pow-le-pow-right, one-le-pow, lt-of-lt-of-le, mul-le-mul-left}
 use native.Mathlib.Omega.{arith}
 use lib.ListN.{length, take, drop, getD, length-append, length-take, length-drop}
 use lib.Seq.{drop-drop, drop-append-add, take-at, getD-drop}

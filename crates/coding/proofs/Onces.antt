@@ -1,15 +1,17 @@
 -- Only one answer, and only one content of a lent buffer, meets the contract of each public function. Assumes nothing.
-use mathlib.Core.Path.{_≡_, _∙_, sym, ap}
+use mathlib.Core.Path.{_≡_, _∙_, refl, sym, ap}
 use mathlib.Core.List.{List}
-use Prim.Native.Nat.{ℕ}
-use denote.Ref.{RefT, now, ptr}
+use Prim.Native.Nat.{ℕ, _+_}
+use native.Mathlib.Omega.{arith}
+use contract.Lifetimes.{Lfts}
+use denote.Ref.{RefT, now, ptr, name}
+use denote.Triple.Entry.{Args}
 use Rattle.coding.specs.Words.{Answer}
 use Rattle.coding.specs.Once.{Once}
 use Rattle.coding.specs.Places.{Part}
 use Rattle.coding.specs.Said.{wroteOf}
 use Rattle.coding.specs.Writing.{Written, Put}
 use Rattle.coding.specs.declared.Wrote.{Wrote}
-use Rattle.coding.specs.declared.varint.VarInt.{VarInt}
 use Rattle.coding.proofs.Inverse.{u8-one, u16-one, u32-one, u64-one, var-one, place-one, made-one, sized-one, wrote-one}
 use Rattle.coding.proofs.refusal.Refusal.number as number
 use Rattle.coding.proofs.refusal.Refusal.number.Reads as number-reads
@@ -121,6 +123,24 @@ take-once κs a x y s t p q = place-one x y _ p q
 part-once : Once part.ended part-reads.Post (λ κs x s. seen x)
 unfolding Once
 part-once κs a x y s t p q = one-part _ x y _ _ p q
+
+-- the whole reference is not settled: its ghost name, which no code can see, is free
+unfoldable named : ℕ → RefT (List ℕ) → ℕ → List ℕ → RefT (List ℕ)
+named g s n l = record { ptr = (ptr s .0, ptr s .1 + n); name = g; now = l }
+
+named-part : (g : ℕ) (s : RefT (List ℕ)) (n : ℕ) (l : List ℕ) → Part s (named g s n l) n l
+unfolding named
+named-part g s n l = record { bytes = refl; block = refl; offset = refl }
+
+name-free : (s : RefT (List ℕ)) (n : ℕ) (l : List ℕ) → ((x y : RefT (List ℕ)) → Part s x n l → Part s y n l → x ≡ y) → ⊥
+unfolding named
+name-free s n l f =
+    let e : _≡_ {A = ℕ} 0 1 = ap name (f (named 0 s n l) (named 1 s n l) (named-part 0 s n l) (named-part 1 s n l)) in
+    omega (arith, e)
+
+part-not-whole : (κs : Lfts 1) (a : Args part.signature κs) → Once part.ended part-reads.Post (λ κs x s. x) → ⊥
+unfolding Once
+part-not-whole κs a f = name-free (a .0) _ _ (λ x y p q. f κs a x y a a p q)
 
 -- ---- puts
 

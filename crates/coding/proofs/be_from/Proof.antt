@@ -1,18 +1,14 @@
-use native.Mathlib.Nat.{sub-self}
+use native.Mathlib.Nat.{sub-self, sub-zero, le-refl}
 use borrow.Author.Needs.{needs}
 use native.Mathlib.Omega.{arith}
-use native.Mathlib.Nat.{sub-zero, le-refl}
 use denote.Ref.{now}
 use mathlib.Core.Path.{_≡_, refl, ap, _∙_}
 use Prim.Native.Nat.{ℕ, _+_, _-_, _*_, _^_, _≤_, _<_}
-use lib.ListN.{length, take, drop}
+use lib.ListN.{take, drop}
 use Rattle.coding.specs.Bytes.{be}
 use Rattle.coding.proofs.Steps.{be-more, room, room-fits}
 use Rattle.coding.proofs.be_from.Statement.{statement}
 use Rattle.coding.proofs.be_from.Tie as tie
-use Rattle.coding.proofs.be_from.Reads as reads
-use Rattle.coding.proofs.be_from.Lts as lts
-use Rattle.coding.proofs.wide.Reads as wide-reads
 
 abbrev Inv-loop : tie.InvT-loop
 Inv-loop s at n first v₀ i₀ v i = (i ≤ n) × ((v ≡ be first (take i (drop at s))) × ((v + 1) * 256 ^ (n - i) ≤ (first + 1) * 256 ^ n))
@@ -20,30 +16,24 @@ Inv-loop s at n first v₀ i₀ v i = (i ≤ n) × ((v ≡ be first (take i (dro
 abbrev μ-loop : tie.MeasureT-loop
 μ-loop s at n first v₀ i₀ v i = n - i
 
--- src/lib.rt:78:5
 loop-holds : tie.Need-loop-holds Inv-loop μ-loop
 unfolding be
 loop-holds c = (search needs, (refl, rw sub-zero (le-refl _)))
 
--- src/lib.rt:79:13
 mul-v : tie.Need-mul-v Inv-loop μ-loop
 mul-v c =
     let l = c .before .loop in
     omega (arith, c .before .before .before .pre .1, room-fits (l .v) 0 _ (l .i) _ (omega arith) (c .loop-test .taken) (l .inv .1 .1))
 
--- src/lib.rt:79:30
 add-wide : tie.Need-add-wide Inv-loop μ-loop
 add-wide c = search needs
 
--- src/lib.rt:79:28
 shared-slice-read-wide : tie.Need-shared-slice-read-wide Inv-loop μ-loop
 shared-slice-read-wide c = search needs
 
--- src/lib.rt:79:23
 wide-requires : tie.Need-wide-requires Inv-loop μ-loop
 wide-requires c κs = search needs
 
--- src/lib.rt:79:13
 add-v : tie.Need-add-v Inv-loop μ-loop
 add-v c =
     let t = c .before .before in
@@ -52,15 +42,12 @@ add-v c =
     let b : c .wide .result < 256 = omega (arith, c .before .shared-slice-known2 .given (a .args .at + l .i)) in
     omega (arith, a .pre .1, room-fits (l .v) (c .wide .result) _ (l .i) _ b (t .loop-test .taken) (l .inv .1 .1))
 
--- src/lib.rt:80:9
 add-i : tie.Need-add-i Inv-loop μ-loop
 add-i c = search needs
 
--- src/lib.rt:78:5
 loop-less : tie.Need-loop-less Inv-loop μ-loop
 loop-less c = search needs
 
--- src/lib.rt:78:5
 loop-again : tie.Need-loop-again Inv-loop μ-loop
 loop-again c =
     let t = c .before .before in
@@ -74,7 +61,6 @@ loop-again c =
       ),
     )
 
--- src/lib.rt:72:1
 returns : tie.Need-returns Inv-loop μ-loop
 returns c =
     let a = c .before .before .before .args in

@@ -1,36 +1,26 @@
 use native.Mathlib.Omega.{arith}
 use Rattle.coding.proofs.Laws.{below-num, u64-num}
-use mathlib.Core.Path.{_≡_, sym, _∙_}
 use Rattle.coding.specs.Said.{u16Of, u64Of}
 use borrow.Author.Needs.{needs}
 use Rattle.coding.proofs.get_u16.Statement.{statement}
 use Rattle.coding.proofs.get_u16.Tie as tie
-use Rattle.coding.proofs.get_u16.Reads as reads
-use Rattle.coding.proofs.get_u16.Lts as lts
-use Rattle.coding.proofs.get_be.Reads as get-be-reads
 
--- src/lib.rt:111:33
 get-be-requires : tie.Need-get-be-requires
 get-be-requires c κs = search needs
 
--- src/lib.rt:111:22
 enum-known-x : tie.Need-enum-known-x
 enum-known-x c = search needs
 
--- src/lib.rt:112:9
 enum-told : tie.Need-enum-told
 enum-told c = search needs
 
--- src/lib.rt:112:9
 returns : tie.Need-returns
 unfolding u16Of u64Of
 returns c = rw (c .enum-told .given .1) at (c .before .before .get-be .ensures .0)
 
--- src/lib.rt:114:18
 cast-t6 : tie.Need-cast-t6
 cast-t6 c = omega (arith, below-num _ _ _ _ (c .before .before .before .get-be .ensures .1) (c .before .x .given .1))
 
--- src/lib.rt:108:1
 returns-2 : tie.Need-returns-2
 unfolding u16Of
 returns-2 c = u64-num _ _ _ _ (c .before .before .before .get-be .ensures .0) (c .before .x .given .1)

@@ -5,14 +5,10 @@ use mathlib.Core.Path.{refl}
 use borrow.Author.Needs.{needs}
 use Rattle.coding.proofs.part.Statement.{statement}
 use Rattle.coding.proofs.part.Tie as tie
-use Rattle.coding.proofs.part.Reads as reads
-use Rattle.coding.proofs.part.Lts as lts
 
--- src/lib.rt:183:9
 slice-aggregate-result : tie.Need-slice-aggregate-result
 slice-aggregate-result c = search needs
 
--- src/lib.rt:183:9
 returns : tie.Need-returns
 returns c =
     let a = c .before .before .args in
@@ -22,15 +18,12 @@ returns c =
       offset = omega (arith, start-out (a .s .now) (a .p) (omega arith));
     }
 
--- src/lib.rt:185:8
 sub-if2 : tie.Need-sub-if2
 sub-if2 c = search needs
 
--- src/lib.rt:186:9
 slice-aggregate-result-2 : tie.Need-slice-aggregate-result-2
 slice-aggregate-result-2 c = search needs
 
--- src/lib.rt:186:9
 returns-2 : tie.Need-returns-2
 returns-2 c =
     let a = c .before .before .before .args in
@@ -40,23 +33,18 @@ returns-2 c =
       offset = omega (arith, start-out (a .s .now) (a .p) (omega arith));
     }
 
--- src/lib.rt:188:15
 add-result : tie.Need-add-result
 add-result c = search needs
 
--- src/lib.rt:188:5
 sub-result : tie.Need-sub-result
 sub-result c = search needs
 
--- src/lib.rt:188:5
 part-result-start : tie.Need-part-result-start
 part-result-start c = search needs
 
--- src/lib.rt:188:5
 part-result-end : tie.Need-part-result-end
 part-result-end c = search needs
 
--- src/lib.rt:177:1
 returns-3 : tie.Need-returns-3
 returns-3 c =
     let a = c .before .before .before .args in

@@ -1,18 +1,16 @@
 use borrow.Author.Needs.{needs}
 use native.Mathlib.Omega.{arith}
-use mathlib.Core.Path.{_≡_, refl, sym, ap, _∙_}
-use Prim.Native.Nat.{ℕ, _+_, _-_, _/_, _^_, _≤_, _<_}
-use native.Mathlib.Nat.{sub-zero, sub-self, add-zero, div-one, pow-zero}
-use lib.ListN.{length, length-set}
+use mathlib.Core.Path.{_≡_, ap, _∙_}
+use Prim.Native.Nat.{_+_, _-_, _/_, _^_, _≤_}
+use native.Mathlib.Nat.{sub-zero, sub-self, add-zero, div-one}
+use lib.ListN.{length}
 use lib.Seq.{sets, length-sets}
 use denote.Ref.{now}
-use Rattle.coding.specs.Bytes.{bytesBE, splice}
+use Rattle.coding.specs.Bytes.{bytesBE}
 use Rattle.coding.proofs.Steps.{put-more, rest-more, sets-splice}
 use Rattle.coding.proofs.Laws.{length-bytesBE}
 use Rattle.coding.proofs.put_be.Statement.{statement}
 use Rattle.coding.proofs.put_be.Tie as tie
-use Rattle.coding.proofs.put_be.Reads as reads
-use Rattle.coding.proofs.put_be.Lts as lts
 
 abbrev Inv-loop : tie.InvT-loop
 Inv-loop buf₀ at n x v₀ i₀ buf v i = (i ≤ n) × ((buf ≡ sets buf₀ (at + i) (bytesBE (n - i) x)) × (v ≡ x / 256 ^ (n - i)))
@@ -20,34 +18,27 @@ Inv-loop buf₀ at n x v₀ i₀ buf v i = (i ≤ n) × ((buf ≡ sets buf₀ (a
 abbrev μ-loop : tie.MeasureT-loop
 μ-loop buf₀ at n x v₀ i₀ buf v i = i
 
--- src/lib.rt:198:5
 loop-holds : tie.Need-loop-holds Inv-loop μ-loop
 unfolding bytesBE
 loop-holds c = (search needs, (simp sub-self, simp (sub-self, div-one)))
 
--- src/lib.rt:199:9
 sub-i : tie.Need-sub-i Inv-loop μ-loop
 sub-i c = search needs
 
--- src/lib.rt:200:23
 cast-buf : tie.Need-cast-buf Inv-loop μ-loop
 cast-buf c = search needs
 
--- src/lib.rt:200:13
 add-buf : tie.Need-add-buf Inv-loop μ-loop
 add-buf c = search needs
 
--- src/lib.rt:200:9
 slice-write-buf : tie.Need-slice-write-buf Inv-loop μ-loop
 slice-write-buf c =
     let l = c .before .loop in
     rw (l .inv .1 .0, length-sets) (omega arith)
 
--- src/lib.rt:198:5
 loop-less : tie.Need-loop-less Inv-loop μ-loop
 loop-less c = search needs
 
--- src/lib.rt:198:5
 loop-again : tie.Need-loop-again Inv-loop μ-loop
 loop-again c =
     let l = c .before .loop in
@@ -59,11 +50,9 @@ loop-again c =
       ),
     )
 
--- src/lib.rt:192:1
 same-length : tie.Need-same-length Inv-loop μ-loop
 same-length c = ap length (c .before .loop .inv .1 .0) ∙ simp length-sets
 
--- src/lib.rt:192:1
 returns : tie.Need-returns Inv-loop μ-loop
 returns c =
     let a = c .before .before .args in

@@ -1,18 +1,15 @@
-use lib.Seq.{take-all}
+use lib.Seq.{take-all, paste, paste-zero, paste-suc, length-paste}
 use Rattle.coding.specs.Bytes.{splice}
 use native.Mathlib.Numerals.{add-one}
-use lib.Seq.{paste, paste-zero, paste-suc, length-paste}
 use borrow.Author.Needs.{needs}
 use native.Mathlib.Omega.{arith}
-use mathlib.Core.Path.{_≡_, refl, sym, ap, _∙_}
-use Prim.Native.Nat.{ℕ, _+_, _-_, _≤_, _<_}
-use lib.ListN.{length, take, length-set}
+use mathlib.Core.Path.{_≡_, ap, _∙_}
+use Prim.Native.Nat.{_-_, _≤_}
+use lib.ListN.{length}
 use denote.Ref.{now}
 use Rattle.coding.proofs.Writes.{put-not, put-fits}
 use Rattle.coding.proofs.put_slice.Statement.{statement}
 use Rattle.coding.proofs.put_slice.Tie as tie
-use Rattle.coding.proofs.put_slice.Reads as reads
-use Rattle.coding.proofs.put_slice.Lts as lts
 
 abbrev Inv-loop : tie.InvT-loop
 Inv-loop buf₀ at bytes i₀ buf i = (i ≤ length bytes) × (buf ≡ paste buf₀ at bytes i)
@@ -20,66 +17,53 @@ Inv-loop buf₀ at bytes i₀ buf i = (i ≤ length bytes) × (buf ≡ paste buf
 abbrev μ-loop : tie.MeasureT-loop
 μ-loop buf₀ at bytes i₀ buf i = length bytes - i
 
--- src/lib.rt:247:9
 returns : tie.Need-returns Inv-loop μ-loop
 returns c = put-not _ _ _ (omega arith)
 
--- src/lib.rt:249:8
 sub-if2 : tie.Need-sub-if2 Inv-loop μ-loop
 sub-if2 c = search needs
 
--- src/lib.rt:250:9
 returns-2 : tie.Need-returns-2 Inv-loop μ-loop
 returns-2 c = put-not _ _ _ (omega arith)
 
--- src/lib.rt:253:5
 loop-holds : tie.Need-loop-holds Inv-loop μ-loop
 loop-holds c =
     let a = c .before .before .args in
     (search needs, paste-zero (now (a .buf)) (a .at) (now (a .bytes)))
 
--- src/lib.rt:254:23
 shared-slice-read-buf : tie.Need-shared-slice-read-buf Inv-loop μ-loop
 shared-slice-read-buf c = search needs
 
--- src/lib.rt:254:13
 add-buf : tie.Need-add-buf Inv-loop μ-loop
 add-buf c = search needs
 
--- src/lib.rt:254:9
 slice-write-buf : tie.Need-slice-write-buf Inv-loop μ-loop
 slice-write-buf c =
     let l = c .before .before .loop in
     let a = c .before .before .before .before .before .args in
     omega (arith, ap length (l .inv .1), length-paste (now (a .buf)) (a .at) (now (a .bytes)) (l .i) (omega arith) (omega arith))
 
--- src/lib.rt:255:9
 add-i : tie.Need-add-i Inv-loop μ-loop
 add-i c = search needs
 
--- src/lib.rt:253:5
 loop-less : tie.Need-loop-less Inv-loop μ-loop
 loop-less c = search needs
 
--- src/lib.rt:253:5
 loop-again : tie.Need-loop-again Inv-loop μ-loop
 loop-again c =
     let l = c .before .before .loop in
     let a = c .before .before .before .before .before .args in
     (search needs, rw (l .inv .1, add-one) (paste-suc (now (a .buf)) (a .at) (now (a .bytes)) (l .i) 0 (omega arith) (omega arith)))
 
--- src/lib.rt:257:5
 add-result : tie.Need-add-result Inv-loop μ-loop
 add-result c = search needs
 
--- src/lib.rt:243:1
 same-length : tie.Need-same-length Inv-loop μ-loop
 same-length c =
     let l = c .before .loop in
     let a = c .before .before .before .before .args in
     ap length (l .inv .1) ∙ length-paste (now (a .buf)) (a .at) (now (a .bytes)) (l .i) (omega arith) (omega arith)
 
--- src/lib.rt:243:1
 returns-3 : tie.Need-returns-3 Inv-loop μ-loop
 unfolding splice
 returns-3 c =

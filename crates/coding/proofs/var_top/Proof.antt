@@ -1,28 +1,21 @@
 use Rattle.coding.proofs.Rules.{choices}
-use native.Mathlib.Omega.{arith}
 use Rattle.coding.specs.Varint.{varTop}
 use Rattle.coding.specs.Words.{if_then_else_}
 use Rattle.coding.proofs.var_top.Statement.{statement}
 use Rattle.coding.proofs.var_top.Tie as tie
-use Rattle.coding.proofs.var_top.Reads as reads
-use Rattle.coding.proofs.var_top.Lts as lts
 
--- src/lib.rt:261:1
 returns : tie.Need-returns
 unfolding varTop if_then_else_
 returns c = simp (c .match .keys1)
 
--- src/lib.rt:261:1
 returns-2 : tie.Need-returns-2
 unfolding varTop if_then_else_
 returns-2 c = simp (c .match .keys2)
 
--- src/lib.rt:261:1
 returns-3 : tie.Need-returns-3
 unfolding varTop if_then_else_
 returns-3 c = simp (c .match .keys3)
 
--- src/lib.rt:261:1
 returns-4 : tie.Need-returns-4
 unfolding varTop
 returns-4 c = search choices

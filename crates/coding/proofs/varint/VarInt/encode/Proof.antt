@@ -3,51 +3,38 @@ use Prim.Native.Nat.{_≤_}
 use denote.Ref.{now}
 use Rattle.coding.specs.Varint.{varBytes}
 use native.Mathlib.Omega.{arith}
-use mathlib.Core.Path.{_≡_, sym, _∙_, ap}
 use Rattle.coding.proofs.Laws.{sized-bytes, sized-not, out-some, out-none, put-some, length-var}
 use Rattle.coding.proofs.Writes.{written-no, written-short, written-ok, put-so}
 use Rattle.coding.specs.Said.{wroteOf}
 use borrow.Author.Needs.{needs}
 use Rattle.coding.proofs.varint.VarInt.encode.Statement.{statement}
 use Rattle.coding.proofs.varint.VarInt.encode.Tie as tie
-use Rattle.coding.proofs.varint.VarInt.encode.Reads as reads
-use Rattle.coding.proofs.varint.VarInt.encode.Lts as lts
-use Rattle.coding.proofs.varint.VarInt.size.Reads as size-reads
-use Rattle.coding.proofs.write_var.Reads as write-var-reads
 
--- src/varint.rt:78:31
 size-requires : tie.Need-size-requires
 size-requires c κs = search needs
 
--- src/varint.rt:78:26
 enum-known-n : tie.Need-enum-known-n
 enum-known-n c = search needs
 
--- src/varint.rt:79:35
 enum-told : tie.Need-enum-told
 enum-told c = search needs
 
--- src/varint.rt:79:13
 returns : tie.Need-returns
 unfolding wroteOf
 returns c = written-no _ (out-none _ (sized-not _ _ _ (c .before .before .size .ensures) (c .enum-told .given .1)))
 
--- src/varint.rt:82:13
 returns-2 : tie.Need-returns-2
 unfolding wroteOf
 returns-2 c =
     let h = sized-bytes _ _ _ (c .before .before .before .before .size .ensures) (c .before .before .n .given .1) in
     written-short _ (out-some _ (h .0)) (simp length-var (omega arith))
 
--- src/varint.rt:84:20
 write-var-requires : tie.Need-write-var-requires
 write-var-requires c κs = search needs
 
--- src/varint.rt:75:5
 same-length : tie.Need-same-length
 same-length c = search needs
 
--- src/varint.rt:75:5
 returns-3 : tie.Need-returns-3
 unfolding wroteOf
 returns-3 c =

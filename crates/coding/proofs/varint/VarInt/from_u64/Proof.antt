@@ -1,18 +1,13 @@
 use Rattle.coding.proofs.Rules.{choices}
-use native.Mathlib.Omega.{arith}
 use Rattle.coding.specs.Varint.{varMade, in62}
 use Rattle.coding.specs.Said.{madeOf}
 use Rattle.coding.proofs.varint.VarInt.from_u64.Statement.{statement}
 use Rattle.coding.proofs.varint.VarInt.from_u64.Tie as tie
-use Rattle.coding.proofs.varint.VarInt.from_u64.Reads as reads
-use Rattle.coding.proofs.varint.VarInt.from_u64.Lts as lts
 
--- src/varint.rt:38:5
 returns : tie.Need-returns
 unfolding madeOf varMade in62
 returns c = search choices
 
--- src/varint.rt:38:5
 returns-2 : tie.Need-returns-2
 unfolding madeOf varMade in62
 returns-2 c = search choices

@@ -6,30 +6,23 @@ use Rattle.coding.specs.Said.{sizedOf}
 use Rattle.coding.proofs.Rules.{tests}
 use Rattle.coding.proofs.varint.VarInt.size.Statement.{statement}
 use Rattle.coding.proofs.varint.VarInt.size.Tie as tie
-use Rattle.coding.proofs.varint.VarInt.size.Reads as reads
-use Rattle.coding.proofs.varint.VarInt.size.Lts as lts
 
--- src/varint.rt:60:13
 returns : tie.Need-returns
 unfolding sizedOf varSized in62 varSize varTag if_then_else_
 returns c = let h : c .before .args .self .0 < 2 ^ 62 = omega arith in search tests
 
--- src/varint.rt:63:13
 returns-2 : tie.Need-returns-2
 unfolding sizedOf varSized in62 varSize varTag if_then_else_
 returns-2 c = let h : c .before .before .args .self .0 < 2 ^ 62 = omega arith in search tests
 
--- src/varint.rt:66:13
 returns-3 : tie.Need-returns-3
 unfolding sizedOf varSized in62 varSize varTag if_then_else_
 returns-3 c = let h : c .before .before .before .args .self .0 < 2 ^ 62 = omega arith in search tests
 
--- src/varint.rt:69:13
 returns-4 : tie.Need-returns-4
 unfolding sizedOf varSized in62 varSize varTag if_then_else_
 returns-4 c = search tests
 
--- src/varint.rt:55:5
 returns-5 : tie.Need-returns-5
 unfolding sizedOf varSized in62 varSize varTag if_then_else_
 returns-5 c = search tests
