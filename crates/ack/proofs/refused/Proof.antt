@@ -1,0 +1,14 @@
+use mathlib.Core.Path.{refl}
+use Rattle.ack.specs.Step.{refuse}
+use Rattle.ack.specs.Said.{stepOf, takenOf}
+use Rattle.ack.proofs.refused.Statement.{statement}
+use Rattle.ack.proofs.refused.Tie as tie
+use Rattle.ack.proofs.refused.Reads as reads
+use Rattle.ack.proofs.refused.Lts as lts
+
+returns : tie.Need-returns
+unfolding takenOf stepOf refuse
+returns c = refl
+
+pub refused-spec : {M : Type 1} → statement M
+refused-spec = tie.close (tie.spec returns)

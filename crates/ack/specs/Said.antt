@@ -1,0 +1,22 @@
+-- What each case of the code's answers says, in document 01's numbers and values.
+use Prim.Native.Nat.{ℕ}
+use Rattle.coding.specs.Words.{Answer, no, ok}
+use Rattle.coding.specs.Refusals.{numberOf}
+use Rattle.ack.specs.Step.{Step, range, end, refused, Taken}
+use Rattle.ack.specs.declared.Scanned.{Scanned}
+use Rattle.ack.specs.declared.Scanned.the-variants as scanned
+use Rattle.ack.specs.declared.AckStep.{AckStep}
+use Rattle.ack.specs.declared.AckStep.the-variants as ack
+use Rattle.ack.specs.declared.AckTaken.{AckTaken}
+
+unfoldable pub scannedOf : Scanned → Answer ℕ
+scannedOf (scanned.To n) = ok n
+scannedOf (scanned.Refused why) = no (numberOf why)
+
+unfoldable pub stepOf : AckStep → Step
+stepOf (ack.Range smallest largest) = range (record { smallest = smallest .0; largest = largest .0 })
+stepOf ack.End = end
+stepOf (ack.Refused why) = refused (numberOf why)
+
+unfoldable pub takenOf : AckTaken → Taken
+takenOf t = record { step = stepOf (t .answer); largest = t .largest .0; next = t .next }

@@ -1,0 +1,17 @@
+-- `add_assign` is proved by hand and has no `Reads`: only one answer, and only one state of the counts, meets its contract. Assumes nothing.
+use mathlib.Core.Path.{_∙_, sym, refl}
+use denote.Ref.{now}
+use Rattle.coding.specs.Once.{Once, OnceOf}
+use Rattle.ecn.specs.declared.EcnCounts.{EcnCounts}
+use Rattle.ecn.specs.declared.Raise.{Raise}
+use Rattle.ecn.proofs.One.{raise-one}
+use Rattle.ecn.proofs.EcnCounts.add_assign as add-assign
+
+add-assign-once : OnceOf {B = Raise × EcnCounts} add-assign.ended (λ M. add-assign.clauses) (λ κs x s. (x, now (s .0)))
+unfolding Once
+add-assign-once =
+    record {
+      claim = _;
+      is = λ M 𝓤 H A mem run κs a g x s. refl;
+      once = λ κs a x y s t p q i. (raise-one x y _ (p .1) (q .1) i, (p .0 ∙ sym (q .0)) i);
+    }

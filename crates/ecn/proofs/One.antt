@@ -1,0 +1,43 @@
+-- One count: what `more` returned says, and what it makes of the count. Assumes nothing.
+use mathlib.Core.Path.{_≡_, refl, ap, _∙_}
+use mathlib.Core.Bool.{Bool, true, false}
+use Prim.Native.Nat.{ℕ, _+_, _-_, _^_}
+use lib.Dec.{ltb}
+use Rattle.coding.specs.Words.{if_then_else_, Answer, no, ok}
+use Rattle.coding.specs.declared.refusal.Refusal.the-variants as ref
+use Rattle.coding.proofs.Inverse.{one-by, answered}
+use Rattle.coding.proofs.Numbers.{refusalOf, refusal-back}
+use Rattle.ecn.specs.Counts.{saidOf, countOf, moreOf, raiseOf}
+use Rattle.ecn.specs.declared.Raise.{Raise}
+use Rattle.ecn.specs.declared.Raise.the-variants.{Done, Refused}
+use Rattle.ecn.specs.declared.Raised.{Raised}
+
+pub more-count : (n : ℕ) (r : Raised) → r ≡ moreOf n → r .count ≡ countOf n
+unfolding moreOf countOf if_then_else_
+more-count n r e = ap (λ (m : Raised). m .count) e ∙ go (ltb n (2 ^ 62 - 1))
+  where
+    made : Bool → Raised
+    made t = if t then (record { count = n + 1; answer = Done }) else (record { count = n; answer = Refused ref.Argument })
+
+    go : (t : Bool) → made t .count ≡ (if t then n + 1 else n)
+    go true = refl
+    go false = refl
+
+pub more-said : (n : ℕ) (r : Raised) → r ≡ moreOf n → raiseOf (r .answer) ≡ saidOf n
+unfolding moreOf saidOf raiseOf if_then_else_
+more-said n r e = ap (λ (m : Raised). raiseOf (m .answer)) e ∙ go (ltb n (2 ^ 62 - 1))
+  where
+    made : Bool → Raised
+    made t = if t then (record { count = n + 1; answer = Done }) else (record { count = n; answer = Refused ref.Argument })
+
+    go : (t : Bool) → raiseOf (made t .answer) ≡ (if t then ok tt else no 14)
+    go true = refl
+    go false = refl
+
+pub raise-one : (x y : Raise) (g : Answer Unit) → raiseOf x ≡ g → raiseOf y ≡ g → x ≡ y
+unfolding raiseOf
+raise-one = one-by raiseOf (answered (λ k. Refused (refusalOf k)) (λ _. Done)) back
+  where
+    back : (r : Raise) → answered (λ k. Refused (refusalOf k)) (λ _. Done) (raiseOf r) ≡ r
+    back Done = refl
+    back (Refused why) = ap Refused (refusal-back why)

@@ -1,0 +1,71 @@
+// ECN counts, each raised by one where it stands (frame.rs, EcnCounts and its add_assign).
+use coding::Refusal;
+use shared::EcnCodepoint;
+ghost use mathlib.Core.Path.{_≡_};
+ghost use Rattle.ecn.specs.Counts.{moreOf, raiseOf, countsAfter, saidAfter};
+
+pub struct EcnCounts {
+    pub ect0: u64,
+    pub ect1: u64,
+    pub ce: u64,
+}
+
+pub const ZERO: EcnCounts = EcnCounts {
+    ect0: 0,
+    ect1: 0,
+    ce: 0,
+};
+
+// Whether a count was raised.
+pub enum Raise {
+    Done,
+    Refused(Refusal),
+}
+
+// A count, and whether it was raised.
+struct Raised {
+    count: u64,
+    answer: Raise,
+}
+
+// A count raised by one, or as it was with the refusal.
+fn more(n: u64) -> Raised
+    ensures { λ r. ⌜ r ≡ moreOf n ⌝ }
+{
+    if n < 0x3fff_ffff_ffff_ffff {
+        Raised {
+            count: n + 1,
+            answer: Raise::Done,
+        }
+    } else {
+        Raised {
+            count: n,
+            answer: Raise::Refused(Refusal::Argument),
+        }
+    }
+}
+
+impl EcnCounts {
+    // One count is raised where it stands, and the other two stay; a refusal changes nothing.
+    pub fn add_assign(&mut self, rhs: EcnCodepoint) -> Raise
+        ensures { λ r. ⌜ (now (self .exit) ≡ countsAfter (now (self .entry)) rhs) × (raiseOf r ≡ saidAfter (now (self .entry)) rhs) ⌝ }
+    {
+        match rhs {
+            EcnCodepoint::Ect0 => {
+                let r = more(self.ect0);
+                self.ect0 = r.count;
+                r.answer
+            }
+            EcnCodepoint::Ect1 => {
+                let r = more(self.ect1);
+                self.ect1 = r.count;
+                r.answer
+            }
+            EcnCodepoint::Ce => {
+                let r = more(self.ce);
+                self.ce = r.count;
+                r.answer
+            }
+        }
+    }
+}

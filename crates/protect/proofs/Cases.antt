@@ -1,0 +1,257 @@
+-- The cases of the sample's place, finish and the mask step, each from the tests that lead to it. Assumes nothing.
+use Prim.Native.Nat.{ℕ, zero, suc, _+_, _-_, _/_, _%_, _^_, _<_, _≤_}
+use mathlib.Core.Path.{_≡_, refl, sym, ap, _∙_}
+use mathlib.Core.List.{List, [], _∷_, _++_}
+use mathlib.Core.Bool.{Bool, true, false, not, _&&_}
+use mathlib.Core.Option.{Option, none, some}
+use native.Mathlib.Nat.{not-suc-le-zero}
+use native.Mathlib.Omega.{arith}
+use lib.Bits.{bitXor}
+use lib.Dec.{ltb, leb, eqb}
+use lib.ListN.{length, take, drop, getD, set, length-drop, length-set}
+use borrow.Author.Tests.{lt-ltb, le-ltb, le-leb, lt-leb, eq-eqb, ne-eqb, leb-true, not-true, not-false}
+use Rattle.coding.specs.Words.{if_then_else_, Got, cut, got, andThen, Answer, no, ok}
+use Rattle.coding.specs.Bytes.{byteAt, be}
+use Rattle.coding.specs.Reading.{fixedAt}
+use Rattle.coding.specs.Said.{u32Of}
+use Rattle.coding.specs.declared.U32Read.{U32Read}
+use Rattle.coding.specs.declared.U32Read.the-variants as u32
+use Rattle.coding.proofs.Laws.{Octets, octets-drop, whole, fixed-some}
+use Rattle.shared.specs.declared.kinds.CutNumber.{CutNumber}
+use Rattle.protect.specs.Protection.{xor, xorAt, numberLen, firstMask, numberMask, masked, applied, removed}
+use Rattle.protect.specs.Tests.{inSize, hasSample, formBit, numberBytes, numberFits, leastHeader, headerTests}
+use Rattle.protect.specs.Steps.{readOff, leftBy, Changed, sampleAt, Opened, unnumbered, openedBy, opened, openAt, finishAt, finished, protectAt, maskNumber, maskAt, done}
+use Rattle.protect.specs.Said.{finishedOf}
+use Rattle.protect.specs.declared.Finished.the-variants as fin
+use Rattle.protect.proofs.Xor.{length-xorAt}
+use Rattle.protect.proofs.Numbers.{be-first}
+use Rattle.protect.proofs.Parts.{first-stored}
+
+-- ---- a test that a function of its own made, by what the code saw of it
+
+pub told : {r t : Bool} → r ≡ t → not r ≡ false → t ≡ true
+told {r} e h = sym e ∙ not-false r h
+
+pub denied : {r t : Bool} → r ≡ t → not r ≡ true → t ≡ false
+denied {r} e h = sym e ∙ not-true r h
+
+-- ---- a call that changes a packet refuses, or has changed it
+
+module _ {A : Type 0} (read : List ℕ → A) (old : List ℕ) {w : Answer (List ℕ)} where
+  pub changed-no : {k : ℕ} → w ≡ no k → Changed read w old (no k) old
+  unfolding readOff leftBy
+  changed-no e = record { says = rw e; leaves = rw e }
+
+  pub changed-ok : {said : Answer A} {new : List ℕ} → w ≡ ok new → said ≡ ok (read new) → Changed read w old said new
+  unfolding readOff leftBy
+  changed-ok e f = record { says = rw e f; leaves = rw e }
+
+-- ---- the masked packet
+
+pub length-masked : (long : Bool) (mask : List ℕ) (at n : ℕ) (packet : List ℕ) → length (masked long mask at n packet) ≡ length packet
+unfolding masked
+length-masked long mask at n packet = length-xorAt at _ _ ∙ length-xorAt 0 _ packet
+
+pub first-masked : (long : Bool) (mask : List ℕ) (at n : ℕ) (packet : List ℕ) → 1 ≤ at → 0 < length packet
+    → byteAt (masked long mask at n packet) 0 ≡ bitXor (byteAt packet 0) (firstMask long (byteAt mask 0))
+unfolding masked xorAt xor
+first-masked long mask zero n packet h k = absurd (not-suc-le-zero h)
+first-masked long mask (suc at) n [] h k = absurd (not-suc-le-zero k)
+first-masked long mask (suc at) n (b ∷ l) h k = refl
+
+-- ---- finish
+
+-- of four bytes, all
+pub cut-four : (k word : ℕ) → k ≡ 4 → word ≡ word / 256 ^ (4 - k)
+cut-four k word e = rw e (omega arith)
+
+-- what is said of a long and of a short packet
+module _ (number : CutNumber) (first word k : ℕ) (e₀ : number .0 ≡ k) (e₁ : number .1 ≡ word / 256 ^ (4 - k)) (e : k ≡ numberLen first) where
+  pub said-long : finishedOf (fin.Long number (eqb (first / 4 % 4) 0)) ≡ ok (openedBy true first (word / 256 ^ (4 - numberLen first)))
+  unfolding finishedOf openedBy if_then_else_
+  said-long = rw (e₀, e₁, e)
+
+  pub said-short : finishedOf (fin.Short number (eqb (first / 8 % 4) 0) (eqb (first / 4 % 2) 1)) ≡ ok (openedBy false first (word / 256 ^ (4 - numberLen first)))
+  unfolding finishedOf openedBy if_then_else_
+  said-short = rw (e₀, e₁, e)
+
+-- after the mask, four bytes are still there: 9 is never given
+pub not-cut : (packet ms : List ℕ) (at b : ℕ) {new : List ℕ} {r : U32Read} → hasSample (length packet) at ≡ true → new ≡ xorAt at ms (set packet 0 b)
+    → u32Of r ≡ fixedAt 4 new at → r ≡ u32.End → ⊥
+unfolding u32Of
+not-cut packet ms at b {new} k e er q =
+    let l : length new ≡ length packet = ap length e ∙ length-xorAt at ms (set packet 0 b) ∙ length-set packet 0 b in
+    let g = fixed-some 4 new at (be 0 (take 4 (drop at new))) (omega (arith, leb-true (at + 4 + 16) (length packet) k)) refl in
+    let c : cut ≡ fixedAt 4 new at = rw q at er in
+    let z : _≡_ {A = ℕ} 0 1 = cc in
+    omega arith
+
+module _ (long : Bool) (packet : List ℕ) (at : ℕ) (mask : List ℕ) where
+  pub open-zero : at ≡ 0 → openAt long packet at mask ≡ no 14
+  unfolding openAt if_then_else_
+  open-zero h = rw (eq-eqb at 0 h)
+
+  module _ (h : at ≡ 0 → ⊥) where
+    pub open-short : hasSample (length packet) at ≡ false → openAt long packet at mask ≡ no 8
+    unfolding openAt if_then_else_
+    open-short k = rw (ne-eqb at 0 h, k)
+
+    module _ (k : hasSample (length packet) at ≡ true) where
+      pub open-form : {bit : ℕ} → bit ≡ formBit long → (byteAt packet 0 / 0x80 ≡ bit → ⊥) → openAt long packet at mask ≡ no 14
+      unfolding openAt if_then_else_
+      open-form e f = rw (ne-eqb at 0 h, k, ne-eqb (byteAt packet 0 / 0x80) (formBit long) (λ q. f (q ∙ sym e)))
+
+      module _ (f : byteAt packet 0 / 0x80 ≡ formBit long) where
+        reach : at + 20 ≤ length packet
+        reach = omega (arith, leb-true (at + 4 + 16) (length packet) k)
+
+        pub open-ok : openAt long packet at mask ≡ ok (removed long mask at packet)
+        unfolding openAt if_then_else_ fixedAt andThen
+        open-ok = rw (ne-eqb at 0 h, k, eq-eqb (byteAt packet 0 / 0x80) (formBit long) f, le-leb (at + 4) (length packet) (omega (arith, reach)))
+
+        module _ (m n : ℕ) (new : List ℕ) (em : m ≡ firstMask long (byteAt mask 0)) (en : n ≡ numberLen (bitXor (byteAt packet 0) m))
+            (e₀ : new ≡ xorAt at (numberMask n mask) (set packet 0 (bitXor (byteAt packet 0) m))) (r : U32Read) (er : u32Of r ≡ fixedAt 4 new at) where
+          e : new ≡ masked long mask at n packet
+          e = e₀ ∙ first-stored long mask at n m packet (omega (arith, reach)) em
+
+          is-removed : new ≡ removed long mask at packet
+          unfolding removed
+          is-removed = e ∙ ap (λ (j : ℕ). masked long mask at j packet) (en ∙ ap (λ (x : ℕ). numberLen (bitXor (byteAt packet 0) x)) em)
+
+          pub open-done : (word next : ℕ) (said : Answer Opened) → Octets new → r ≡ u32.Num word next
+              → said ≡ ok (openedBy long (bitXor (byteAt packet 0) m) (word / 256 ^ (4 - numberLen (bitXor (byteAt packet 0) m))))
+              → Changed (opened long at) (openAt long packet at mask) packet said new
+          unfolding u32Of fixedAt opened
+          open-done word next said o q s =
+              let g : got word next ≡ fixedAt 4 new at = rw q at er in
+              let w = whole new at 4 next (be 0 (take 4 (drop at new))) word (sym g) in
+              let b : byteAt new 0 ≡ bitXor (byteAt packet 0) m =
+              ap (λ (l : List ℕ). byteAt l 0) e ∙ first-masked long mask at n packet (omega (arith, reach)) (omega (arith, reach)) ∙ ap (bitXor (byteAt packet 0)) (sym em) in
+              let four : 4 ≤ length (drop at new) = simp length-drop (omega (arith, w .0)) in
+              let v : be 0 (take 4 (drop at new)) / 256 ^ (4 - numberLen (byteAt new 0)) ≡ be 0 (take (numberLen (byteAt new 0)) (drop at new)) =
+              be-first (drop at new) 4 (numberLen (byteAt new 0)) (octets-drop at new o) (omega arith) four in
+              changed-ok (opened long at) packet (open-ok ∙ ap ok (sym is-removed)) (s ∙ rw (← b, ← w .1 .1, v))
+
+-- ---- the header's tests
+
+and-left : (a b : Bool) → (a && b) ≡ true → a ≡ true
+and-left true b h = refl
+and-left false b h = h
+
+and-right : (a b : Bool) → (a && b) ≡ true → b ≡ true
+and-right true b h = h
+and-right false b h = let z : _≡_ {A = ℕ} 0 1 = cc in absurd (omega arith)
+
+pub fits-le : (number : Option ℕ) → numberFits number ≡ true → numberBytes number ≤ 4
+fits-le none h = omega arith
+fits-le (some k) h = leb-true k 4 (and-right (leb 1 k) (leb k 4) h)
+
+-- what a header that passes has
+pub tests-room : (headerLen k len : ℕ) (hasLength : Bool) (number : Option ℕ) → number ≡ some k → headerTests headerLen number hasLength len ≡ true → 1 + k ≤ headerLen
+unfolding headerTests
+tests-room headerLen k len hasLength number e t =
+    let h : headerTests headerLen (some k) hasLength len ≡ true = rw e at t in
+    least hasLength (leb-true (leastHeader (some k) hasLength) headerLen (and-right (leb len 65527 && leb headerLen len && numberFits (some k)) _ h))
+  where
+    least : (b : Bool) → leastHeader (some k) b ≤ headerLen → 1 + k ≤ headerLen
+    least true h = omega arith
+    least false h = h
+
+pub tests-size : (headerLen len : ℕ) (hasLength : Bool) (number : Option ℕ) → headerTests headerLen number hasLength len ≡ true → len ≤ 65527
+unfolding headerTests
+tests-size headerLen len hasLength number h =
+    let a = and-left (leb len 65527 && leb headerLen len && numberFits number) _ h in
+    let b = and-left (leb len 65527 && leb headerLen len) (numberFits number) a in
+    leb-true len 65527 (and-left (leb len 65527) (leb headerLen len) b)
+
+-- ---- the sample's place
+
+module _ (numbered : Bool) (packet : List ℕ) (at : ℕ) where
+  pub sample-big : 65527 < length packet → no 14 ≡ sampleAt numbered packet at
+  unfolding sampleAt inSize if_then_else_
+  sample-big h = rw (lt-ltb 65527 (length packet) h)
+
+  module _ (h : length packet ≤ 65527) where
+    pub sample-none : numbered ≡ false → ok none ≡ sampleAt numbered packet at
+    unfolding sampleAt inSize if_then_else_
+    sample-none e = rw (le-ltb 65527 (length packet) h, e)
+
+    module _ (e : numbered ≡ true) where
+      pub sample-zero : at ≡ 0 → no 14 ≡ sampleAt numbered packet at
+      unfolding sampleAt inSize if_then_else_
+      sample-zero k = rw (le-ltb 65527 (length packet) h, e, eq-eqb at 0 k)
+
+      module _ (k : at ≡ 0 → ⊥) where
+        pub sample-short : hasSample (length packet) at ≡ false → no 8 ≡ sampleAt numbered packet at
+        unfolding sampleAt inSize if_then_else_
+        sample-short j = rw (le-ltb 65527 (length packet) h, e, ne-eqb at 0 k, j)
+
+        pub sample-some : hasSample (length packet) at ≡ true → ok (some (record { start = at + 4; len = 16 })) ≡ sampleAt numbered packet at
+        unfolding sampleAt inSize if_then_else_
+        sample-some j = rw (le-ltb 65527 (length packet) h, e, ne-eqb at 0 k, j)
+
+-- ---- finish of any kind
+
+module _ (numbered long : Bool) (packet : List ℕ) (at : ℕ) (mask : List ℕ) where
+  pub finish-big : 65527 < length packet → finishAt numbered long packet at mask ≡ no 14
+  unfolding finishAt inSize if_then_else_
+  finish-big h = rw (lt-ltb 65527 (length packet) h)
+
+  module _ (h : length packet ≤ 65527) where
+    pub finish-none : numbered ≡ false → Changed (finished numbered long at) (finishAt numbered long packet at mask) packet (ok unnumbered) packet
+    unfolding finishAt finished inSize if_then_else_
+    finish-none e = changed-ok _ packet (rw (le-ltb 65527 (length packet) h, e)) (rw e)
+
+    pub finish-on : {b : Bool} {said : Answer Opened} {new : List ℕ} → numbered ≡ true → b ≡ long → Changed (opened b at) (openAt b packet at mask) packet said new
+        → Changed (finished numbered long at) (finishAt numbered long packet at mask) packet said new
+    unfolding finishAt finished inSize if_then_else_
+    finish-on e f c = rw (le-ltb 65527 (length packet) h, e, ← f) c
+
+pub finish-ok : (long : Bool) (packet : List ℕ) (at : ℕ) (mask : List ℕ) → length packet ≤ 65527 → (at ≡ 0 → ⊥) → hasSample (length packet) at ≡ true
+    → byteAt packet 0 / 0x80 ≡ formBit long → finishAt true long packet at mask ≡ ok (removed long mask at packet)
+unfolding finishAt inSize if_then_else_
+finish-ok long packet at mask h z k f = rw (le-ltb 65527 (length packet) h) (open-ok long packet at mask z k f)
+
+-- ---- the mask step
+
+module _ (long : Bool) (packet : List ℕ) (at : ℕ) (mask : List ℕ) where
+  pub protect-short : hasSample (length packet) at ≡ false → protectAt long packet at mask ≡ no 8
+  unfolding protectAt if_then_else_
+  protect-short k = rw k
+
+  module _ (k : hasSample (length packet) at ≡ true) {bit : ℕ} (e : bit ≡ formBit long) where
+    pub protect-form : (byteAt packet 0 / 0x80 ≡ bit → ⊥) → protectAt long packet at mask ≡ no 14
+    unfolding protectAt if_then_else_
+    protect-form f = rw (k, ne-eqb (byteAt packet 0 / 0x80) (formBit long) (λ q. f (q ∙ sym e)))
+
+    pub protect-ok : byteAt packet 0 / 0x80 ≡ bit → protectAt long packet at mask ≡ ok (applied long mask at packet)
+    unfolding protectAt if_then_else_
+    protect-ok f = rw (k, eq-eqb (byteAt packet 0 / 0x80) (formBit long) (f ∙ e))
+
+    pub protect-done : {n m : ℕ} {new : List ℕ} → byteAt packet 0 / 0x80 ≡ bit → m ≡ firstMask long (byteAt mask 0) → n ≡ numberLen (byteAt packet 0)
+        → new ≡ xorAt at (numberMask n mask) (set packet 0 (bitXor (byteAt packet 0) m)) → protectAt long packet at mask ≡ ok new
+    unfolding applied
+    protect-done {n} {m} f em en ep =
+        let h : 0 < length packet = omega (arith, leb-true (at + 4 + 16) (length packet) k) in
+        protect-ok f ∙ ap ok (sym (ep ∙ first-stored long mask at n m packet h em ∙ ap (λ (j : ℕ). masked long mask at j packet) en))
+
+module _ (headerLen : ℕ) (number : Option ℕ) (hasLength : Bool) (packet mask : List ℕ) where
+  pub mask-no : headerTests headerLen number hasLength (length packet) ≡ false → maskAt headerLen number hasLength packet mask ≡ no 14
+  unfolding maskAt if_then_else_
+  mask-no h = rw h
+
+  module _ (h : headerTests headerLen number hasLength (length packet) ≡ true) where
+    pub mask-none : number ≡ none → maskAt headerLen number hasLength packet mask ≡ ok packet
+    unfolding maskAt maskNumber if_then_else_
+    mask-none e = rw (h, e)
+
+    pub mask-on : {said : Answer (Unit {0})} {new : List ℕ} (k : ℕ) → number ≡ some k → Changed done (protectAt hasLength packet (headerLen - k) mask) packet said new
+        → Changed done (maskAt headerLen number hasLength packet mask) packet said new
+    unfolding maskAt maskNumber if_then_else_
+    mask-on k e c = rw (h, e) c
+
+pub mask-ok : (headerLen k : ℕ) (hasLength : Bool) (packet mask : List ℕ) → headerTests headerLen (some k) hasLength (length packet) ≡ true
+    → hasSample (length packet) (headerLen - k) ≡ true → byteAt packet 0 / 0x80 ≡ formBit hasLength
+    → maskAt headerLen (some k) hasLength packet mask ≡ ok (applied hasLength mask (headerLen - k) packet)
+unfolding maskAt maskNumber if_then_else_
+mask-ok headerLen k hasLength packet mask t s f = rw t (protect-ok hasLength packet (headerLen - k) mask s refl f)

@@ -1,0 +1,103 @@
+use Prim.Native.Nat.{_+_, _≤_}
+use mathlib.Core.Path.{_∙_}
+use native.Mathlib.Omega.{arith}
+use lib.ListN.{length}
+use borrow.Author.Tests.{leb-true}
+use Rattle.protect.specs.Said.{finishedOf}
+use Rattle.protect.proofs.Cases.{told, denied, changed-no, open-zero, open-short, open-form, not-cut, open-done}
+use borrow.Author.Needs.{needs}
+use Rattle.protect.proofs.finish_numbered.Statement.{statement}
+use Rattle.protect.proofs.finish_numbered.Tie as tie
+use Rattle.protect.proofs.finish_numbered.Reads as reads
+use Rattle.protect.proofs.finish_numbered.Lts as lts
+use Rattle.coding.proofs.get_u32.Reads as get-u32-reads
+use Rattle.protect.proofs.first_mask.Reads as first-mask-reads
+use Rattle.protect.proofs.form_bit.Reads as form-bit-reads
+use Rattle.protect.proofs.has_sample.Reads as has-sample-reads
+use Rattle.protect.proofs.mask_header.Reads as mask-header-reads
+use Rattle.protect.proofs.number_len.Reads as number-len-reads
+use Rattle.protect.proofs.say_opened.Reads as say-opened-reads
+
+returns : tie.Need-returns
+unfolding finishedOf
+returns c = changed-no _ _ (open-zero _ _ _ _ (c .if1 .taken))
+
+has-sample-requires : tie.Need-has-sample-requires
+has-sample-requires c κs = search needs
+
+returns-2 : tie.Need-returns-2
+unfolding finishedOf
+returns-2 c = changed-no _ _ (open-short _ _ _ _ (c .before .before .if1 .left) (denied (c .before .has-sample .ensures) (c .if2 .taken)))
+
+slice-read-if3 : tie.Need-slice-read-if3
+slice-read-if3 c = let a = c .before .before .before .before .before .args in let h : a .number-offset + 4 + 16 ≤ length (a .packet .now) = leb-true _ _ (told (c .before .before .has-sample .ensures) (c .before .if2 .left)) in search needs
+
+form-bit-requires : tie.Need-form-bit-requires
+form-bit-requires c κs = search needs
+
+returns-3 : tie.Need-returns-3
+unfolding finishedOf
+returns-3 c = changed-no _ _ (open-form _ _ _ _ (c .before .before .before .before .before .if1 .left) (told (c .before .before .before .before .has-sample .ensures) (c .before .before .before .if2 .left)) (c .before .form-bit .ensures) (c .if3 .taken))
+
+slice-read-hidden : tie.Need-slice-read-hidden
+slice-read-hidden c = let a = c .before .before .before .before .before .before .before .before .args in let h : a .number-offset + 4 + 16 ≤ length (a .packet .now) = leb-true _ _ (told (c .before .before .before .before .before .has-sample .ensures) (c .before .before .before .before .if2 .left)) in search needs
+
+array-read-first-mask : tie.Need-array-read-first-mask
+array-read-first-mask c = search needs
+
+first-mask-requires : tie.Need-first-mask-requires
+first-mask-requires c κs = search needs
+
+number-len-requires : tie.Need-number-len-requires
+number-len-requires c κs = search needs
+
+mask-header-requires : tie.Need-mask-header-requires
+mask-header-requires c κs = let a = c .before .before .before .before .before .before .before .before .before .before .before .args in let h : a .number-offset + 4 + 16 ≤ length (a .packet .now) = leb-true _ _ (told (c .before .before .before .before .before .before .before .before .has-sample .ensures) (c .before .before .before .before .before .before .before .if2 .left)) in (omega (arith, c .number-len .ensures), omega arith)
+
+get-u32-requires : tie.Need-get-u32-requires
+get-u32-requires c κs = search needs
+
+enum-known-word : tie.Need-enum-known-word
+enum-known-word c = search needs
+
+enum-told : tie.Need-enum-told
+enum-told c = search needs
+
+same-length : tie.Need-same-length
+same-length c = search needs
+
+returns-4 : tie.Need-returns-4
+returns-4 c = absurd (not-cut (c .before .before .before .before .before .before .before .before .before .before .before .before .before .before .before .before .before .before .args .packet .now) _ _ _ (told (c .before .before .before .before .before .before .before .before .before .before .before .before .before .before .before .has-sample .ensures) (c .before .before .before .before .before .before .before .before .before .before .before .before .before .before .if2 .left)) (c .before .before .before .before .before .before .mask-header .ensures) (c .before .before .get-u32 .ensures) (c .enum-told .given .1))
+
+say-opened-requires : tie.Need-say-opened-requires
+say-opened-requires c κs = search needs
+
+same-length-2 : tie.Need-same-length-2
+same-length-2 c = search needs
+
+returns-5 : tie.Need-returns-5
+returns-5 c = open-done _ _ _ _ (c .before .before .before .before .before .before .before .before .before .before .before .before .before .before .before .before .before .before .if1 .left) (told (c .before .before .before .before .before .before .before .before .before .before .before .before .before .before .before .before .before .has-sample .ensures) (c .before .before .before .before .before .before .before .before .before .before .before .before .before .before .before .before .if2 .left)) (c .before .before .before .before .before .before .before .before .before .before .before .before .before .if3 .left ∙ c .before .before .before .before .before .before .before .before .before .before .before .before .before .before .form-bit .ensures) _ _ _ (c .before .before .before .before .before .before .before .before .before .before .before .first-mask .ensures) (c .before .before .before .before .before .before .before .before .before .number-len .ensures) (c .before .before .before .before .before .before .before .before .mask-header .ensures) _ (c .before .before .before .before .get-u32 .ensures) _ _ _ (λ i. omega (arith, c .before .before .before .before .before .before .slice-known4 .given i)) (c .before .before .word .given .1) (c .say-opened .ensures)
+
+pub finish-numbered-spec : {M : Type 1} → statement M
+finish-numbered-spec =
+    tie.close
+    (tie.spec
+    returns
+    has-sample-requires
+    returns-2
+    slice-read-if3
+    form-bit-requires
+    returns-3
+    slice-read-hidden
+    array-read-first-mask
+    first-mask-requires
+    number-len-requires
+    mask-header-requires
+    get-u32-requires
+    enum-known-word
+    enum-told
+    same-length
+    returns-4
+    say-opened-requires
+    same-length-2
+    returns-5)

@@ -1,0 +1,5 @@
+-- In the order in which to read them.
+pub mod Cid
+pub mod Ecn
+pub mod Streams
+pub mod Said
