@@ -1,0 +1,98 @@
+//! The one table of operations: what a line names, what a record numbers, and the function that asks the Rust.
+use super::leaf;
+use super::words::{Args, Bad};
+use crate::{frame, packet, shared};
+
+pub type Run = fn(&mut Args, &mut String) -> Result<(), Bad>;
+
+/// The fields of a line, a letter each, all numbers before all bytes. In a record they stand in the same order, as a
+/// number (8 bytes, most significant first) or as bytes (a length of 3 bytes, then the bytes), and are filled up to three
+/// numbers and two parts:
+/// - `n` a number, `b` bytes;
+/// - `v` numbers of 4 bytes, `r` numbers of 8 bytes: bytes;
+/// - `K` a kind of header, `F` a kind of frame: the number of its place in the list, then its own fields.
+pub struct Op {
+    pub code: u8,
+    pub name: &'static str,
+    pub fields: &'static str,
+    pub run: Run,
+}
+
+const fn op(code: u8, name: &'static str, fields: &'static str, run: Run) -> Op {
+    Op { code, name, fields, run }
+}
+
+pub const OPS: [Op; 35] = [
+    // varint.rs, coding.rs
+    op(1, "vread", "nb", leaf::vread),
+    op(2, "vfrom", "n", leaf::vfrom),
+    op(3, "vsize", "n", leaf::vsize),
+    op(4, "vwrite", "nb", leaf::vwrite),
+    op(5, "vput", "nnb", leaf::vput),
+    op(6, "get", "nnb", leaf::get),
+    op(7, "put", "nnnb", leaf::put),
+    op(8, "puts", "nbb", leaf::puts),
+    op(9, "take", "nnb", frame::probe::take),
+    op(10, "part", "nnb", leaf::part),
+    // shared.rs, lib.rs
+    op(11, "cidnew", "b", shared::probe::cidnew),
+    op(12, "cidbuf", "nnb", shared::probe::cidbuf),
+    op(13, "ciddec", "nb", shared::probe::ciddec),
+    op(14, "cidenc", "nbb", shared::probe::cidenc),
+    op(15, "ecnbits", "n", shared::probe::ecnbits),
+    op(16, "sidnew", "nnn", shared::probe::sidnew),
+    op(17, "sid", "n", shared::probe::sid),
+    op(18, "ftypes", "", frame::probe::ftypes),
+    // packet.rs
+    op(32, "split", "nnvb", packet::probe::split),
+    op(33, "walk", "nnvb", packet::probe::walk),
+    op(34, "finish", "nnvbb", packet::probe::finish),
+    op(35, "unmask", "nbb", packet::probe::unmask),
+    op(36, "henc", "K", packet::probe::henc),
+    op(37, "hfin", "nnnbbb", packet::probe::hfin),
+    op(38, "whole", "Kbbb", packet::probe::whole),
+    op(39, "pnnew", "nn", packet::probe::pnnew),
+    op(40, "pnexp", "nb", packet::probe::pnexp),
+    op(41, "pndec", "nb", packet::probe::pndec),
+    // frame.rs
+    op(64, "frames", "b", frame::probe::frames),
+    op(65, "framesraw", "b", frame::probe::framesraw),
+    op(66, "ackscan", "nnb", frame::probe::ackscan),
+    op(67, "ackiter", "nb", frame::probe::ackiter),
+    op(68, "fenc", "F", frame::probe::fenc),
+    op(69, "ecn", "nnnn", frame::probe::ecn),
+    op(70, "bounds", "", frame::probe::bounds),
+];
+
+/// Kinds of header, with their fields.
+pub const KINDS: [(&str, &str); 6] = [
+    ("initial", "nbbbb"),
+    ("0rtt", "nbbb"),
+    ("handshake", "nbbb"),
+    ("retry", "nbb"),
+    ("short", "nnbb"),
+    ("vneg", "nbb"),
+];
+
+/// Kinds of frame that have an encoder, with their fields.
+pub const FRAMES: [(&str, &str); 11] = [
+    ("reset", "nnn"),
+    ("stop", "nn"),
+    ("crypto", "nb"),
+    ("token", "b"),
+    ("stream", "nnnnn"),
+    ("newcid", "nnbb"),
+    ("datagram", "nb"),
+    ("ackfreq", "nnnn"),
+    ("close", "nnrb"),
+    ("appclose", "nnb"),
+    ("ack", "nrr"),
+];
+
+pub fn by_name(name: &str) -> Option<&'static Op> {
+    OPS.iter().find(|op| op.name == name)
+}
+
+pub fn by_code(code: u8) -> Option<&'static Op> {
+    OPS.iter().find(|op| op.code == code)
+}
