@@ -1,0 +1,222 @@
+-- On any line that invents nothing, a packet is read as it was sent exactly when the largest accepted number is near; and the
+-- model does what the letter says of its ends. Assumes nothing.
+use Prim.Native.Nat.{ℕ, suc, _+_, _-_, _*_, _%_, _^_, _≤_, _<_}
+use mathlib.Core.Path.{_≡_, refl, sym, ap, _∙_}
+use mathlib.Core.List.{List, [], _∷_, List·Memᴰ, List·Memᴰ·cases-cons, List·Memᴰ·not-nil}
+use mathlib.Core.Logic.{_↔_, ⊎-elim}
+use native.Mathlib.Omega.{arith}
+use native.Mathlib.Numerals.{add-one}
+use lib.ListN.{length}
+use Rattle.coding.specs.Words.{ok}
+use Rattle.number.specs.Cutting.{windowOf}
+use Rattle.number.specs.Expanding.{nearestTo}
+use Rattle.number.specs.Ends.{SoFar, none, at, baseOf, expectedOf, largerOf, Packet, done, acknowledgeBy, readBy, acceptBy}
+use Rattle.number.specs.Line.{World, freshWorld, Step, Reach, Near, Delivery}
+use Rattle.number.specs.Line.Step.{sends, accepts, acknowledges, hears}
+use Rattle.number.specs.Line.Reach.{start, next}
+use Rattle.number.proofs.Windows.{le?, Window, window-made, Fit}
+use Rattle.number.proofs.Cuts.{CutIs, cut-kept}
+use Rattle.number.proofs.Readings.{read-back, overtaken, expanded-in}
+use Rattle.number.proofs.Calls.{SendMade, send-yes, receive-yes, acknowledge-on, accept-on, send-is, acknowledge-is, accept-is, sent-made, acknowledged-made, larger}
+
+-- ---- what holds in every world that is reached
+
+-- a packet that was sent, e being what the receiver expects and m the number to send next: it was counted, and cut from a base that is not past e
+pub record Cut (e m : ℕ) (p : Packet) : Type 0 where
+  pub base : ℕ
+  pub low : base ≤ e
+  pub counted : p .number < m
+  pub is : CutIs (p .number) base (p .carries)
+
+-- a number that was accepted or acknowledged: it was sent, and is not past e
+pub record Taken (e m n : ℕ) : Type 0 where
+  pub low : n ≤ e
+  pub counted : n < m
+
+pub record Inv (w : World) : Type 0 where
+  pub made : SendMade (w .sender)
+  pub top : expectedOf (w .receiver .largest) ≤ 2 ^ 62
+  pub base : baseOf (w .sender .acked) ≤ expectedOf (w .receiver .largest)
+  pub sent : {p : Packet} → List·Memᴰ p (w .sent) → Cut (expectedOf (w .receiver .largest)) (w .sender .next) p
+  pub accepted : {n : ℕ} → List·Memᴰ n (w .accepted) → Taken (expectedOf (w .receiver .largest)) (w .sender .next) n
+  pub acks : {n : ℕ} → List·Memᴰ n (w .acks) → Taken (expectedOf (w .receiver .largest)) (w .sender .next) n
+
+cut-on : {d e m n : ℕ} {p : Packet} → d ≤ e → m ≤ n → Cut d m p → Cut e n p
+cut-on h k c = record { base = c .base; low = omega arith; counted = omega arith; is = c .is }
+
+taken-on : {d e m n i : ℕ} → d ≤ e → m ≤ n → Taken d m i → Taken e n i
+taken-on h k t = record { low = omega arith; counted = omega arith }
+
+inv-start : Inv freshWorld
+unfolding expectedOf baseOf
+inv-start =
+    record {
+      made = record { top = omega arith; sent = omega arith };
+      top = omega arith;
+      base = omega arith;
+      sent = λ m. absurd (List·Memᴰ·not-nil m);
+      accepted = λ m. absurd (List·Memᴰ·not-nil m);
+      acks = λ m. absurd (List·Memᴰ·not-nil m);
+    }
+
+inv-step : {w v : World} → Inv w → Step w v → Inv v
+inv-step {w} i (sends {p} {e} q) =
+    let x = send-is (w .sender) q in
+    let n : ℕ = w .sender .next in
+    let up : n ≤ n + 1 = omega arith in
+    let same : expectedOf (w .receiver .largest) ≤ expectedOf (w .receiver .largest) = omega arith in
+    rw (x .end)
+    (record {
+      made = rw (x .end) at (sent-made x);
+      top = i .top;
+      base = i .base;
+      sent =
+          λ {p} m.
+          ⊎-elim
+          (λ y.
+          rw y
+          (record { base = baseOf (w .sender .acked); low = i .base; counted = omega (arith, x .number); is = rw (x .number) (x .cut) }))
+          (λ y. cut-on same up (i .sent y))
+          (List·Memᴰ·cases-cons m);
+      accepted = λ m. taken-on same up (i .accepted m);
+      acks = λ m. taken-on same up (i .acks m);
+    })
+inv-step {w} i (accepts {p} {e} m read q) =
+    let x = accept-is (w .receiver) (p .number) q in
+    let up = larger (w .receiver .largest) (p .number) in
+    let n : ℕ = w .sender .next in
+    let same : n ≤ n = omega arith in
+    rw (x .end)
+    (record {
+      made = i .made;
+      top = up .within (i .top) (omega (arith, x .top));
+      base = omega (arith, i .base, up .keeps);
+      sent = λ y. cut-on (up .keeps) same (i .sent y);
+      accepted =
+          λ {n} y.
+          ⊎-elim
+          (λ z. rw z (record { low = omega (arith, up .covers); counted = i .sent m .counted }))
+          (λ z. taken-on (up .keeps) same (i .accepted z))
+          (List·Memᴰ·cases-cons y);
+      acks = λ y. taken-on (up .keeps) same (i .acks y);
+    })
+inv-step i (acknowledges m) =
+    record {
+      made = i .made;
+      top = i .top;
+      base = i .base;
+      sent = i .sent;
+      accepted = i .accepted;
+      acks = λ {n} y. ⊎-elim (λ z. rw z (i .accepted m)) (i .acks) (List·Memᴰ·cases-cons y);
+    }
+inv-step {w} i (hears {n} {e} m q) =
+    let x = acknowledge-is (w .sender) n q in
+    let up = larger (w .sender .acked) n in
+    rw (x .end)
+    (record {
+      made = rw (x .end) at (acknowledged-made x);
+      top = i .top;
+      base = up .base (i .base) (i .acks m .low);
+      sent = i .sent;
+      accepted = i .accepted;
+      acks = i .acks;
+    })
+
+pub inv : {w : World} → Reach w → Inv w
+inv start = inv-start
+inv (next r s) = inv-step (inv r) s
+
+-- ---- the theorem
+
+-- near, as an order on what the receiver expects
+near-is : (l : SoFar) (n k : ℕ) → 128 ≤ 2 ^ (8 * k - 1) → Near l n k ↔ (expectedOf l < n + 2 ^ (8 * k - 1))
+unfolding Near expectedOf
+near-is none n k h = (λ x. omega arith, λ x. tt)
+near-is (at m) n k h = (λ x. omega arith, λ x. omega arith)
+
+-- what is read of a packet that was sent: it is never refused
+pub reads : {w : World} → Reach w → {p : Packet} → List·Memᴰ p (w .sent)
+    → ok (nearestTo (windowOf (p .carries .0)) (p .number % windowOf (p .carries .0)) (expectedOf (w .receiver .largest))) ≡ readBy (w .receiver) (p .carries)
+unfolding readBy
+reads {w} r {p} m =
+    let i = inv r in
+    let c = i .sent m in
+    let e : ℕ = expectedOf (w .receiver .largest) in
+    ap (λ (v : ℕ). ok (nearestTo (windowOf (p .carries .0)) v e)) (sym (c .is .value)) ∙ expanded-in (p .carries) e (cut-kept (c .is)) (i .top)
+
+pub delivery : Delivery
+delivery w r p m = (forth, back)
+  where
+    n : ℕ
+    n = p .number
+
+    k : ℕ
+    k = p .carries .0
+
+    h : ℕ
+    h = 2 ^ (8 * k - 1)
+
+    e : ℕ
+    e = expectedOf (w .receiver .largest)
+
+    c : Cut e (w .sender .next) p
+    c = inv r .sent m
+
+    f : Fit 1 k (2 * (n - c .base))
+    f = c .is .fit
+
+    win : Window k
+    win = window-made k (f .from) (f .high)
+
+    up : n ≤ e + h
+    up = omega (arith, win, f .above, c .low, c .is .down)
+
+    pos : 0 < h
+    pos = omega (arith, win)
+
+    forth : readBy (w .receiver) (p .carries) ≡ ok n → Near (w .receiver .largest) n k
+    forth q =
+        let same : ok (nearestTo (windowOf k) (n % windowOf k) e) ≡ ok n = reads r m ∙ q in
+        let is : nearestTo (windowOf k) (n % windowOf k) e ≡ n = cc in
+        ⊎-elim
+        (λ far. absurd (overtaken (windowOf k) h n e (win .twice) pos far is))
+        (near-is (w .receiver .largest) n k (win .least) .1)
+        (le? (n + h) e)
+
+    back : Near (w .receiver .largest) n k → readBy (w .receiver) (p .carries) ≡ ok n
+    back q =
+        sym (reads r m)
+        ∙ ap (λ (x : ℕ). ok x) (read-back (windowOf k) h n e (win .twice) pos up (near-is (w .receiver .largest) n k (win .least) .0 q))
+
+-- ---- the sender counts 0, 1, 2, and so on: the latest packet has the number of those before it
+
+abbrev pub Counted : List Packet → Type 0
+Counted [] = Unit
+Counted (p ∷ l) = (p .number ≡ length l) × Counted l
+
+pub counted : {w : World} → Reach w → (w .sender .next ≡ length (w .sent)) × Counted (w .sent)
+counted start = (refl, tt)
+counted (next {w} r (sends {p} {e} q)) =
+    let x = send-is (w .sender) q in
+    let i = counted r in
+    (rw (x .end) (add-one _ ∙ ap suc (i .0)), (x .number ∙ i .0, i .1))
+counted (next r (accepts m read q)) = counted r
+counted (next r (acknowledges m)) = counted r
+counted (next {w} r (hears {n} {e} m q)) = rw (acknowledge-is (w .sender) n q .end) (counted r)
+
+-- ---- nothing on the line is refused
+
+-- the sender hears every acknowledgement
+pub heard : {w : World} → Reach w → {n : ℕ} → List·Memᴰ n (w .acks)
+    → acknowledgeBy (w .sender) n ≡ done tt (record { next = w .sender .next; acked = largerOf (w .sender .acked) n; largest = w .sender .largest })
+heard {w} r {n} m =
+    let i = inv r in
+    sym (acknowledge-on (w .sender) n (send-yes (w .sender) (i .made)) (i .acks m .counted))
+
+-- the receiver accepts every packet of the line, and so each that it read as it was sent
+pub taken : {w : World} → Reach w → {p : Packet} → List·Memᴰ p (w .sent)
+    → acceptBy (w .receiver) (p .number)
+    ≡ done tt (record { next = w .receiver .next; acked = w .receiver .acked; largest = largerOf (w .receiver .largest) (p .number) })
+taken {w} r {p} m =
+    let i = inv r in
+    sym (accept-on (w .receiver) (p .number) (receive-yes (w .receiver) (i .top)) (i .sent m .is .top))

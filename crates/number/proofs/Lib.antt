@@ -1,0 +1,9 @@
+-- In the order in which they rest on each other.
+pub mod Windows
+pub mod Cuts
+pub mod Readings
+pub mod Calls
+pub mod Delivery
+pub mod Runs
+pub mod Inverse
+pub mod Onces
