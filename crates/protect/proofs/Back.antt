@@ -1,21 +1,21 @@
 -- What the sender masks the receiver unmasks, and no other byte changes. Assumes nothing.
-use Prim.Native.Nat.{ℕ, zero, suc, _+_, _-_, _/_, _%_, _^_, _<_, _≤_}
-use mathlib.Core.Path.{_≡_, refl, sym, ap, ap₂, _∙_}
-use mathlib.Core.List.{List, [], _∷_, _++_}
+use Prim.Native.Nat.{ℕ, zero, suc, _+_, _-_, _/_, _<_, _≤_}
+use mathlib.Core.Path.{_≡_, refl, ap, ap₂, _∙_}
+use mathlib.Core.List.{List, [], _∷_}
 use mathlib.Core.Bool.{Bool, true, false}
 use mathlib.Core.Option.{some}
 use native.Mathlib.Nat.{not-suc-le-zero, le-of-suc-le-suc}
 use native.Mathlib.Omega.{arith}
 use lib.Bits.{bitXor, xor-shr, xor-zero-r}
 use lib.ListN.{length, take, drop, getD, length-take}
-use borrow.Author.Tests.{le-leb, leb-true}
-use Rattle.coding.specs.Words.{if_then_else_, Answer, no, ok}
+use borrow.Author.Tests.{le-leb}
+use Rattle.coding.specs.Words.{if_then_else_, ok}
 use Rattle.coding.specs.Bytes.{byteAt, be}
 use Rattle.protect.specs.Protection.{xor, xorAt, numberLen, numberMask, firstMask, masked, applied, removed}
 use Rattle.protect.specs.Tests.{hasSample, formBit, headerTests}
-use Rattle.protect.specs.Steps.{Opened, openedBy, opened, finishAt, finished, maskAt, readOff}
+use Rattle.protect.specs.Steps.{openedBy, opened, finishAt, finished, maskAt, readOff}
 use Rattle.protect.proofs.Xor.{xor-twice, xor-back, xor-past}
-use Rattle.protect.proofs.Cases.{first-masked, length-masked, open-ok, finish-ok, mask-ok, tests-room, tests-size}
+use Rattle.protect.proofs.Cases.{first-masked, length-masked, finish-ok, mask-ok, tests-room, tests-size}
 
 -- ---- bytes XORed over those from a place on: twice, and elsewhere
 

@@ -1,16 +1,16 @@
 -- The cases of the sample's place, finish and the mask step, each from the tests that lead to it. Assumes nothing.
 use Prim.Native.Nat.{ℕ, zero, suc, _+_, _-_, _/_, _%_, _^_, _<_, _≤_}
 use mathlib.Core.Path.{_≡_, refl, sym, ap, _∙_}
-use mathlib.Core.List.{List, [], _∷_, _++_}
+use mathlib.Core.List.{List, [], _∷_}
 use mathlib.Core.Bool.{Bool, true, false, not, _&&_}
 use mathlib.Core.Option.{Option, none, some}
 use native.Mathlib.Nat.{not-suc-le-zero}
 use native.Mathlib.Omega.{arith}
 use lib.Bits.{bitXor}
-use lib.Dec.{ltb, leb, eqb}
-use lib.ListN.{length, take, drop, getD, set, length-drop, length-set}
-use borrow.Author.Tests.{lt-ltb, le-ltb, le-leb, lt-leb, eq-eqb, ne-eqb, leb-true, not-true, not-false}
-use Rattle.coding.specs.Words.{if_then_else_, Got, cut, got, andThen, Answer, no, ok}
+use lib.Dec.{leb, eqb}
+use lib.ListN.{length, take, drop, set, length-drop, length-set}
+use borrow.Author.Tests.{lt-ltb, le-ltb, le-leb, eq-eqb, ne-eqb, leb-true, not-true, not-false}
+use Rattle.coding.specs.Words.{if_then_else_, cut, got, andThen, Answer, no, ok}
 use Rattle.coding.specs.Bytes.{byteAt, be}
 use Rattle.coding.specs.Reading.{fixedAt}
 use Rattle.coding.specs.Said.{u32Of}
@@ -20,7 +20,8 @@ use Rattle.coding.proofs.Laws.{Octets, octets-drop, whole, fixed-some}
 use Rattle.shared.specs.declared.kinds.CutNumber.{CutNumber}
 use Rattle.protect.specs.Protection.{xor, xorAt, numberLen, firstMask, numberMask, masked, applied, removed}
 use Rattle.protect.specs.Tests.{inSize, hasSample, formBit, numberBytes, numberFits, leastHeader, headerTests}
-use Rattle.protect.specs.Steps.{readOff, leftBy, Changed, sampleAt, Opened, unnumbered, openedBy, opened, openAt, finishAt, finished, protectAt, maskNumber, maskAt, done}
+use Rattle.protect.specs.Steps.{readOff, leftBy, Changed, sampleAt, Opened, unnumbered, openedBy, opened, openAt, Opens}
+use Rattle.protect.specs.Steps.{finishAt, finished, Finishes, protectAt, Protects, maskNumber, maskAt, Masks}
 use Rattle.protect.specs.Said.{finishedOf}
 use Rattle.protect.specs.declared.Finished.the-variants as fin
 use Rattle.protect.proofs.Xor.{length-xorAt}
@@ -34,6 +35,10 @@ told {r} e h = sym e ∙ not-false r h
 
 pub denied : {r t : Bool} → r ≡ t → not r ≡ true → t ≡ false
 denied {r} e h = sym e ∙ not-true r h
+
+-- rule 8 has passed
+pub reaches : {r : Bool} (len at : ℕ) → r ≡ hasSample len at → not r ≡ false → at + 20 ≤ len
+reaches {r} len at e h = omega (arith, leb-true (at + 4 + 16) len (sym e ∙ not-false r h))
 
 -- ---- a call that changes a packet refuses, or has changed it
 
@@ -120,13 +125,15 @@ module _ (long : Bool) (packet : List ℕ) (at : ℕ) (mask : List ℕ) where
 
           pub open-done : (word next : ℕ) (said : Answer Opened) → Octets new → r ≡ u32.Num word next
               → said ≡ ok (openedBy long (bitXor (byteAt packet 0) m) (word / 256 ^ (4 - numberLen (bitXor (byteAt packet 0) m))))
-              → Changed (opened long at) (openAt long packet at mask) packet said new
+              → Opens long packet at mask said new
           unfolding u32Of fixedAt opened
           open-done word next said o q s =
               let g : got word next ≡ fixedAt 4 new at = rw q at er in
               let w = whole new at 4 next (be 0 (take 4 (drop at new))) word (sym g) in
               let b : byteAt new 0 ≡ bitXor (byteAt packet 0) m =
-              ap (λ (l : List ℕ). byteAt l 0) e ∙ first-masked long mask at n packet (omega (arith, reach)) (omega (arith, reach)) ∙ ap (bitXor (byteAt packet 0)) (sym em) in
+              ap (λ (l : List ℕ). byteAt l 0) e
+              ∙ first-masked long mask at n packet (omega (arith, reach)) (omega (arith, reach))
+              ∙ ap (bitXor (byteAt packet 0)) (sym em) in
               let four : 4 ≤ length (drop at new) = simp length-drop (omega (arith, w .0)) in
               let v : be 0 (take 4 (drop at new)) / 256 ^ (4 - numberLen (byteAt new 0)) ≡ be 0 (take (numberLen (byteAt new 0)) (drop at new)) =
               be-first (drop at new) 4 (numberLen (byteAt new 0)) (octets-drop at new o) (omega arith) four in
@@ -147,7 +154,8 @@ fits-le none h = omega arith
 fits-le (some k) h = leb-true k 4 (and-right (leb 1 k) (leb k 4) h)
 
 -- what a header that passes has
-pub tests-room : (headerLen k len : ℕ) (hasLength : Bool) (number : Option ℕ) → number ≡ some k → headerTests headerLen number hasLength len ≡ true → 1 + k ≤ headerLen
+pub tests-room : (headerLen k len : ℕ) (hasLength : Bool) (number : Option ℕ)
+    → number ≡ some k → headerTests headerLen number hasLength len ≡ true → 1 + k ≤ headerLen
 unfolding headerTests
 tests-room headerLen k len hasLength number e t =
     let h : headerTests headerLen (some k) hasLength len ≡ true = rw e at t in
@@ -198,12 +206,12 @@ module _ (numbered long : Bool) (packet : List ℕ) (at : ℕ) (mask : List ℕ)
   finish-big h = rw (lt-ltb 65527 (length packet) h)
 
   module _ (h : length packet ≤ 65527) where
-    pub finish-none : numbered ≡ false → Changed (finished numbered long at) (finishAt numbered long packet at mask) packet (ok unnumbered) packet
+    pub finish-none : numbered ≡ false → Finishes numbered long packet at mask (ok unnumbered) packet
     unfolding finishAt finished inSize if_then_else_
     finish-none e = changed-ok _ packet (rw (le-ltb 65527 (length packet) h, e)) (rw e)
 
-    pub finish-on : {b : Bool} {said : Answer Opened} {new : List ℕ} → numbered ≡ true → b ≡ long → Changed (opened b at) (openAt b packet at mask) packet said new
-        → Changed (finished numbered long at) (finishAt numbered long packet at mask) packet said new
+    pub finish-on : {b : Bool} {said : Answer Opened} {new : List ℕ} → numbered ≡ true → b ≡ long → Opens b packet at mask said new
+        → Finishes numbered long packet at mask said new
     unfolding finishAt finished inSize if_then_else_
     finish-on e f c = rw (le-ltb 65527 (length packet) h, e, ← f) c
 
@@ -245,8 +253,8 @@ module _ (headerLen : ℕ) (number : Option ℕ) (hasLength : Bool) (packet mask
     unfolding maskAt maskNumber if_then_else_
     mask-none e = rw (h, e)
 
-    pub mask-on : {said : Answer (Unit {0})} {new : List ℕ} (k : ℕ) → number ≡ some k → Changed done (protectAt hasLength packet (headerLen - k) mask) packet said new
-        → Changed done (maskAt headerLen number hasLength packet mask) packet said new
+    pub mask-on : {said : Answer (Unit {0})} {new : List ℕ} (k : ℕ) → number ≡ some k → Protects hasLength packet (headerLen - k) mask said new
+        → Masks headerLen number hasLength packet mask said new
     unfolding maskAt maskNumber if_then_else_
     mask-on k e c = rw (h, e) c
 

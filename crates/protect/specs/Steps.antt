@@ -6,9 +6,11 @@ use mathlib.Core.Bool.{Bool}
 use mathlib.Core.Option.{Option, none, some}
 use lib.ListN.{length, take, drop}
 use lib.Dec.{eqb}
+use denote.Ref.{RefT, now}
 use Rattle.coding.specs.Words.{if_then_else_, andThen, Answer, no, ok}
 use Rattle.coding.specs.Bytes.{byteAt, be}
 use Rattle.coding.specs.Reading.{fixedAt}
+use Rattle.coding.specs.Places.{Part, startOf, partOf}
 use Rattle.coding.specs.declared.Place.{Place}
 use Rattle.protect.specs.Protection.{numberLen, applied, removed}
 use Rattle.protect.specs.Tests.{inSize, hasSample, formBit, numberBytes, headerTests}
@@ -58,7 +60,7 @@ openedBy isLong first value =
 unfoldable pub opened : Bool → ℕ → List ℕ → Opened
 opened isLong at packet = openedBy isLong (byteAt packet 0) (be 0 (take (numberLen (byteAt packet 0)) (drop at packet)))
 
--- a packet with a number, without its mask
+-- a packet with a number, its mask removed
 unfoldable pub openAt : Bool → List ℕ → ℕ → List ℕ → Answer (List ℕ)
 openAt isLong packet at mask =
     if eqb at 0 then no 14 else
@@ -68,6 +70,9 @@ openAt isLong packet at mask =
     else no 14)
     else no 8
 
+abbrev pub Opens : Bool → List ℕ → ℕ → List ℕ → Answer Opened → List ℕ → Type 0
+Opens isLong packet at mask = Changed (opened isLong at) (openAt isLong packet at mask) packet
+
 -- Retry and Version Negotiation have no number, and nothing is looked at or changed
 unfoldable pub finishAt : Bool → Bool → List ℕ → ℕ → List ℕ → Answer (List ℕ)
 finishAt numbered isLong packet at mask = inSize packet (if numbered then openAt isLong packet at mask else ok packet)
@@ -75,7 +80,15 @@ finishAt numbered isLong packet at mask = inSize packet (if numbered then openAt
 unfoldable pub finished : Bool → Bool → ℕ → List ℕ → Opened
 finished numbered isLong at packet = if numbered then opened isLong at packet else unnumbered
 
--- the header, with the number, and the payload
+abbrev pub Finishes : Bool → Bool → List ℕ → ℕ → List ℕ → Answer Opened → List ℕ → Type 0
+Finishes numbered isLong packet at mask = Changed (finished numbered isLong at) (finishAt numbered isLong packet at mask) packet
+
+-- ---- the header, with the number, and the payload
+
+-- r is the part of the packet at a place
+abbrev pub PartAt : RefT (List ℕ) → RefT (List ℕ) → Place → Type 0
+PartAt packet r place = Part packet r (startOf (now packet) place) (partOf (now packet) place)
+
 abbrev pub headerPlace : ℕ → Option ℕ → Place
 headerPlace at number = record { start = 0; len = at + numberBytes number }
 
@@ -84,12 +97,19 @@ payloadPlace at number len = record { start = at + numberBytes number; len = len
 
 -- ---- the mask step, whose answer is only that it is done; a header with a number is long where it has a Length
 
+abbrev pub done : List ℕ → Unit {0}
+done packet = tt
+
 unfoldable pub protectAt : Bool → List ℕ → ℕ → List ℕ → Answer (List ℕ)
 protectAt isLong packet at mask =
     if hasSample (length packet) at then
     (if eqb (byteAt packet 0 / 0x80) (formBit isLong) then ok (applied isLong mask at packet) else no 14)
     else no 8
 
+abbrev pub Protects : Bool → List ℕ → ℕ → List ℕ → Answer (Unit {0}) → List ℕ → Type 0
+Protects isLong packet at mask = Changed done (protectAt isLong packet at mask) packet
+
+-- where there is no number, nothing is done
 unfoldable pub maskNumber : Option ℕ → Bool → ℕ → List ℕ → List ℕ → Answer (List ℕ)
 maskNumber none hasLength headerLen packet mask = ok packet
 maskNumber (some k) hasLength headerLen packet mask = protectAt hasLength packet (headerLen - k) mask
@@ -98,5 +118,5 @@ unfoldable pub maskAt : ℕ → Option ℕ → Bool → List ℕ → List ℕ �
 maskAt headerLen number hasLength packet mask =
     if headerTests headerLen number hasLength (length packet) then maskNumber number hasLength headerLen packet mask else no 14
 
-abbrev pub done : List ℕ → Unit {0}
-done packet = tt
+abbrev pub Masks : ℕ → Option ℕ → Bool → List ℕ → List ℕ → Answer (Unit {0}) → List ℕ → Type 0
+Masks headerLen number hasLength packet mask = Changed done (maskAt headerLen number hasLength packet mask) packet

@@ -8,11 +8,10 @@ ghost use mathlib.Core.Path.{_≡_};
 ghost use mathlib.Core.Bool.{true};
 ghost use Prim.Native.Nat.{_+_, _-_, _/_, _^_, _≤_};
 ghost use lib.ListN.{length, set};
-ghost use Rattle.coding.specs.Places.{Part, startOf, partOf};
 ghost use Rattle.coding.specs.Words.{ok};
 ghost use Rattle.protect.specs.Protection.{xor, xorAt, numberLen, firstMask, numberMask};
-ghost use Rattle.protect.specs.Tests.{hasSample, formBit, headerTests, numberBytes, numberFits, leastHeader};
-ghost use Rattle.protect.specs.Steps.{Changed, sampleAt, openAt, opened, openedBy, finishAt, finished, protectAt, maskAt, done, headerPlace, payloadPlace};
+ghost use Rattle.protect.specs.Tests.{hasSample, formBit, numberBytes, numberFits, leastHeader, headerTests};
+ghost use Rattle.protect.specs.Steps.{sampleAt, openedBy, Opens, Finishes, PartAt, headerPlace, payloadPlace, Protects, Masks};
 ghost use Rattle.protect.specs.Said.{longOf, numberedOf, numberLenOf, sampleOf, finishedOf, maskedOf};
 
 // The most bytes of a packet.
@@ -200,7 +199,7 @@ pub fn sample_place(kind: Kind, packet: &[u8], number_offset: usize) -> SamplePl
 
 // Finish of a packet whose header has a number.
 fn finish_numbered(long: bool, packet: &mut [u8], number_offset: usize, mask: [u8; 5]) -> Finished
-    ensures { λ r. ⌜ Changed (opened long «number_offset») (openAt long (now (packet .entry)) «number_offset» mask) (now (packet .entry)) (finishedOf r) (now (packet .exit)) ⌝ }
+    ensures { λ r. ⌜ Opens long (now (packet .entry)) «number_offset» mask (finishedOf r) (now (packet .exit)) ⌝ }
 {
     if number_offset == 0 {
         return Finished::Refused(Refusal::Argument);
@@ -222,7 +221,7 @@ fn finish_numbered(long: bool, packet: &mut [u8], number_offset: usize, mask: [u
 
 // Takes the header protection off a packet where it stands, and answers its number.
 pub fn finish(kind: Kind, packet: &mut [u8], number_offset: usize, mask: [u8; 5]) -> Finished
-    ensures { λ r. ⌜ Changed (finished (numberedOf kind) (longOf kind) «number_offset») (finishAt (numberedOf kind) (longOf kind) (now (packet .entry)) «number_offset» mask) (now (packet .entry)) (finishedOf r) (now (packet .exit)) ⌝ }
+    ensures { λ r. ⌜ Finishes (numberedOf kind) (longOf kind) (now (packet .entry)) «number_offset» mask (finishedOf r) (now (packet .exit)) ⌝ }
 {
     if MAX_PACKET < packet.len() {
         return Finished::Refused(Refusal::Argument);
@@ -245,7 +244,7 @@ fn bytes_of(number: NumberLen) -> usize
 
 // The packet's header with its number, or no bytes where the packet does not hold it.
 pub fn header_part(packet: &[u8], number_offset: usize, number: NumberLen) -> &[u8]
-    ensures { λ r. ⌜ Part (packet .entry) r (startOf (now (packet .entry)) (headerPlace «number_offset» (numberLenOf number))) (partOf (now (packet .entry)) (headerPlace «number_offset» (numberLenOf number))) ⌝ }
+    ensures { λ r. ⌜ PartAt (packet .entry) r (headerPlace «number_offset» (numberLenOf number)) ⌝ }
 {
     let k = bytes_of(number);
     if packet.len() < number_offset {
@@ -259,7 +258,7 @@ pub fn header_part(packet: &[u8], number_offset: usize, number: NumberLen) -> &[
 
 // What follows the header, or no bytes where the packet does not hold it.
 pub fn payload_part(packet: &[u8], number_offset: usize, number: NumberLen) -> &[u8]
-    ensures { λ r. ⌜ Part (packet .entry) r (startOf (now (packet .entry)) (payloadPlace «number_offset» (numberLenOf number) (length (now (packet .entry))))) (partOf (now (packet .entry)) (payloadPlace «number_offset» (numberLenOf number) (length (now (packet .entry))))) ⌝ }
+    ensures { λ r. ⌜ PartAt (packet .entry) r (payloadPlace «number_offset» (numberLenOf number) (length (now (packet .entry)))) ⌝ }
 {
     let k = bytes_of(number);
     if packet.len() < number_offset {
@@ -311,7 +310,7 @@ pub fn header_tests(header_len: usize, number: NumberLen, has_length: bool, len:
 
 // The mask step of a packet whose header has a number.
 fn protect_numbered(long: bool, packet: &mut [u8], number_offset: usize, mask: [u8; 5]) -> Masked
-    ensures { λ r. ⌜ Changed done (protectAt long (now (packet .entry)) «number_offset» mask) (now (packet .entry)) (maskedOf r) (now (packet .exit)) ⌝ }
+    ensures { λ r. ⌜ Protects long (now (packet .entry)) «number_offset» mask (maskedOf r) (now (packet .exit)) ⌝ }
 {
     if !has_sample(packet.len(), number_offset) {
         return Masked::Refused(Refusal::Sample);
@@ -333,7 +332,7 @@ pub fn mask(
     packet: &mut [u8],
     mask: [u8; 5],
 ) -> Masked
-    ensures { λ r. ⌜ Changed done (maskAt «header_len» (numberLenOf number) «has_length» (now (packet .entry)) mask) (now (packet .entry)) (maskedOf r) (now (packet .exit)) ⌝ }
+    ensures { λ r. ⌜ Masks «header_len» (numberLenOf number) «has_length» (now (packet .entry)) mask (maskedOf r) (now (packet .exit)) ⌝ }
 {
     if !header_tests(header_len, number, has_length, packet.len()) {
         return Masked::Refused(Refusal::Argument);

@@ -1,11 +1,9 @@
 use Rattle.protect.proofs.Cases.{cut-four}
-use Prim.Native.Nat.{ℕ, _/_, _-_, _^_}
+use Prim.Native.Nat.{_-_}
 use mathlib.Core.Path.{_≡_, refl}
 use native.Mathlib.Omega.{arith}
 use Rattle.protect.proofs.cut.Statement.{statement}
 use Rattle.protect.proofs.cut.Tie as tie
-use Rattle.protect.proofs.cut.Reads as reads
-use Rattle.protect.proofs.cut.Lts as lts
 
 returns : tie.Need-returns
 returns c = (refl, rw (c .match .keys1))

@@ -3,11 +3,6 @@ use Rattle.protect.proofs.Cases.{told, denied, changed-no, finish-big, 
 use borrow.Author.Needs.{needs}
 use Rattle.protect.proofs.finish.Statement.{statement}
 use Rattle.protect.proofs.finish.Tie as tie
-use Rattle.protect.proofs.finish.Reads as reads
-use Rattle.protect.proofs.finish.Lts as lts
-use Rattle.protect.proofs.Kind.has_number.Reads as has-number-reads
-use Rattle.protect.proofs.Kind.is_long.Reads as is-long-reads
-use Rattle.protect.proofs.finish_numbered.Reads as finish-numbered-reads
 
 returns : tie.Need-returns
 unfolding finishedOf
@@ -30,7 +25,10 @@ same-length : tie.Need-same-length
 same-length c = search needs
 
 returns-3 : tie.Need-returns-3
-returns-3 c = finish-on _ _ _ _ _ (c .before .before .before .before .before .before .before .if1 .left) (told (c .before .before .before .before .before .before .has-number .ensures) (c .before .before .before .before .before .if2 .left)) (c .before .before .before .before .is-long .ensures) (c .before .before .finish-numbered .ensures)
+returns-3 c =
+    let l = c .before .before .before .before in
+    let k = l .before .before in
+    finish-on _ _ _ _ _ (k .before .if1 .left) (told (k .has-number .ensures) (l .before .if2 .left)) (l .is-long .ensures) (c .before .before .finish-numbered .ensures)
 
 pub finish-spec : {M : Type 1} → statement M
 finish-spec =

@@ -1,22 +1,11 @@
-use Prim.Native.Nat.{_+_, _≤_}
+use lib.ListN.{length}
 use mathlib.Core.Path.{_∙_}
 use native.Mathlib.Omega.{arith}
-use lib.ListN.{length}
-use borrow.Author.Tests.{leb-true}
 use Rattle.protect.specs.Said.{finishedOf}
-use Rattle.protect.proofs.Cases.{told, denied, changed-no, open-zero, open-short, open-form, not-cut, open-done}
+use Rattle.protect.proofs.Cases.{told, denied, reaches, changed-no, open-zero, open-short, open-form, not-cut, open-done}
 use borrow.Author.Needs.{needs}
 use Rattle.protect.proofs.finish_numbered.Statement.{statement}
 use Rattle.protect.proofs.finish_numbered.Tie as tie
-use Rattle.protect.proofs.finish_numbered.Reads as reads
-use Rattle.protect.proofs.finish_numbered.Lts as lts
-use Rattle.coding.proofs.get_u32.Reads as get-u32-reads
-use Rattle.protect.proofs.first_mask.Reads as first-mask-reads
-use Rattle.protect.proofs.form_bit.Reads as form-bit-reads
-use Rattle.protect.proofs.has_sample.Reads as has-sample-reads
-use Rattle.protect.proofs.mask_header.Reads as mask-header-reads
-use Rattle.protect.proofs.number_len.Reads as number-len-reads
-use Rattle.protect.proofs.say_opened.Reads as say-opened-reads
 
 returns : tie.Need-returns
 unfolding finishedOf
@@ -30,17 +19,27 @@ unfolding finishedOf
 returns-2 c = changed-no _ _ (open-short _ _ _ _ (c .before .before .if1 .left) (denied (c .before .has-sample .ensures) (c .if2 .taken)))
 
 slice-read-if3 : tie.Need-slice-read-if3
-slice-read-if3 c = let a = c .before .before .before .before .before .args in let h : a .number-offset + 4 + 16 ≤ length (a .packet .now) = leb-true _ _ (told (c .before .before .has-sample .ensures) (c .before .if2 .left)) in search needs
+slice-read-if3 c =
+    let a = c .before .before .before .before .before .args in
+    let h = reaches (length (a .packet .now)) (a .number-offset) (c .before .before .has-sample .ensures) (c .before .if2 .left) in
+    search needs
 
 form-bit-requires : tie.Need-form-bit-requires
 form-bit-requires c κs = search needs
 
 returns-3 : tie.Need-returns-3
 unfolding finishedOf
-returns-3 c = changed-no _ _ (open-form _ _ _ _ (c .before .before .before .before .before .if1 .left) (told (c .before .before .before .before .has-sample .ensures) (c .before .before .before .if2 .left)) (c .before .form-bit .ensures) (c .if3 .taken))
+returns-3 c =
+    let s = c .before .before .before in
+    changed-no _ _
+    (open-form _ _ _ _ (s .before .before .if1 .left) (told (s .before .has-sample .ensures) (s .if2 .left)) (c .before .form-bit .ensures) (c .if3 .taken))
 
 slice-read-hidden : tie.Need-slice-read-hidden
-slice-read-hidden c = let a = c .before .before .before .before .before .before .before .before .args in let h : a .number-offset + 4 + 16 ≤ length (a .packet .now) = leb-true _ _ (told (c .before .before .before .before .before .has-sample .ensures) (c .before .before .before .before .if2 .left)) in search needs
+slice-read-hidden c =
+    let s = c .before .before .before .before in
+    let a = s .before .before .before .before .args in
+    let h = reaches (length (a .packet .now)) (a .number-offset) (s .before .has-sample .ensures) (s .if2 .left) in
+    search needs
 
 array-read-first-mask : tie.Need-array-read-first-mask
 array-read-first-mask c = search needs
@@ -52,7 +51,11 @@ number-len-requires : tie.Need-number-len-requires
 number-len-requires c κs = search needs
 
 mask-header-requires : tie.Need-mask-header-requires
-mask-header-requires c κs = let a = c .before .before .before .before .before .before .before .before .before .before .before .args in let h : a .number-offset + 4 + 16 ≤ length (a .packet .now) = leb-true _ _ (told (c .before .before .before .before .before .before .before .before .has-sample .ensures) (c .before .before .before .before .before .before .before .if2 .left)) in (omega (arith, c .number-len .ensures), omega arith)
+mask-header-requires c κs =
+    let s = c .before .before .before .before .before .before .before in
+    let a = s .before .before .before .before .args in
+    let h = reaches (length (a .packet .now)) (a .number-offset) (s .before .has-sample .ensures) (s .if2 .left) in
+    (omega (arith, c .number-len .ensures), omega arith)
 
 get-u32-requires : tie.Need-get-u32-requires
 get-u32-requires c κs = search needs
@@ -67,7 +70,12 @@ same-length : tie.Need-same-length
 same-length c = search needs
 
 returns-4 : tie.Need-returns-4
-returns-4 c = absurd (not-cut (c .before .before .before .before .before .before .before .before .before .before .before .before .before .before .before .before .before .before .args .packet .now) _ _ _ (told (c .before .before .before .before .before .before .before .before .before .before .before .before .before .before .before .has-sample .ensures) (c .before .before .before .before .before .before .before .before .before .before .before .before .before .before .if2 .left)) (c .before .before .before .before .before .before .mask-header .ensures) (c .before .before .get-u32 .ensures) (c .enum-told .given .1))
+returns-4 c =
+    let m = c .before .before .before .before .before .before in
+    let s = m .before .before .before .before .before .before .before .before in
+    absurd
+    (not-cut (s .before .before .before .before .args .packet .now) _ _ _ (told (s .before .has-sample .ensures) (s .if2 .left))
+    (m .mask-header .ensures) (c .before .before .get-u32 .ensures) (c .enum-told .given .1))
 
 say-opened-requires : tie.Need-say-opened-requires
 say-opened-requires c κs = search needs
@@ -76,7 +84,16 @@ same-length-2 : tie.Need-same-length-2
 same-length-2 c = search needs
 
 returns-5 : tie.Need-returns-5
-returns-5 c = open-done _ _ _ _ (c .before .before .before .before .before .before .before .before .before .before .before .before .before .before .before .before .before .before .if1 .left) (told (c .before .before .before .before .before .before .before .before .before .before .before .before .before .before .before .before .before .has-sample .ensures) (c .before .before .before .before .before .before .before .before .before .before .before .before .before .before .before .before .if2 .left)) (c .before .before .before .before .before .before .before .before .before .before .before .before .before .if3 .left ∙ c .before .before .before .before .before .before .before .before .before .before .before .before .before .before .form-bit .ensures) _ _ _ (c .before .before .before .before .before .before .before .before .before .before .before .first-mask .ensures) (c .before .before .before .before .before .before .before .before .before .number-len .ensures) (c .before .before .before .before .before .before .before .before .mask-header .ensures) _ (c .before .before .before .before .get-u32 .ensures) _ _ _ (λ i. omega (arith, c .before .before .before .before .before .before .slice-known4 .given i)) (c .before .before .word .given .1) (c .say-opened .ensures)
+returns-5 c =
+    let g = c .before .before .before .before in
+    let m = g .before .before .before .before in
+    let n = m .before in
+    let f = n .before .before in
+    let b = f .before .before in
+    let s = b .before .before .before in
+    open-done _ _ _ _ (s .before .before .if1 .left) (told (s .before .has-sample .ensures) (s .if2 .left)) (b .if3 .left ∙ b .before .form-bit .ensures) _ _ _
+    (f .first-mask .ensures) (n .number-len .ensures) (m .mask-header .ensures) _ (g .get-u32 .ensures) _ _ _
+    (λ i. omega (arith, c .before .before .before .before .before .before .slice-known4 .given i)) (c .before .before .word .given .1) (c .say-opened .ensures)
 
 pub finish-numbered-spec : {M : Type 1} → statement M
 finish-numbered-spec =

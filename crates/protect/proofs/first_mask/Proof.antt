@@ -1,7 +1,5 @@
 use Rattle.protect.proofs.first_mask.Statement.{statement}
 use Rattle.protect.proofs.first_mask.Tie as tie
-use Rattle.protect.proofs.first_mask.Reads as reads
-use Rattle.protect.proofs.first_mask.Lts as lts
 
 returns : tie.Need-returns
 returns c = simp (c .if1 .taken)

@@ -1,7 +1,5 @@
 use Rattle.protect.proofs.form_bit.Statement.{statement}
 use Rattle.protect.proofs.form_bit.Tie as tie
-use Rattle.protect.proofs.form_bit.Reads as reads
-use Rattle.protect.proofs.form_bit.Lts as lts
 
 returns : tie.Need-returns
 returns c = simp (c .if1 .taken)

@@ -5,8 +5,6 @@ use borrow.Author.Tests.{le-leb, lt-leb}
 use borrow.Author.Needs.{needs}
 use Rattle.protect.proofs.has_sample.Statement.{statement}
 use Rattle.protect.proofs.has_sample.Tie as tie
-use Rattle.protect.proofs.has_sample.Reads as reads
-use Rattle.protect.proofs.has_sample.Lts as lts
 
 returns : tie.Need-returns
 returns c = let a = c .before .args in sym (lt-leb (a .number-offset + 4 + 16) (a .len) (omega arith))

@@ -8,9 +8,6 @@ use Rattle.protect.specs.Said.{numberLenOf}
 use borrow.Author.Needs.{needs}
 use Rattle.protect.proofs.header_part.Statement.{statement}
 use Rattle.protect.proofs.header_part.Tie as tie
-use Rattle.protect.proofs.header_part.Reads as reads
-use Rattle.protect.proofs.header_part.Lts as lts
-use Rattle.protect.proofs.bytes_of.Reads as bytes-of-reads
 
 bytes-of-requires : tie.Need-bytes-of-requires
 bytes-of-requires c κs = search needs

@@ -7,10 +7,6 @@ use Rattle.protect.proofs.Cases.{told, denied}
 use borrow.Author.Needs.{needs}
 use Rattle.protect.proofs.header_tests.Statement.{statement}
 use Rattle.protect.proofs.header_tests.Tie as tie
-use Rattle.protect.proofs.header_tests.Reads as reads
-use Rattle.protect.proofs.header_tests.Lts as lts
-use Rattle.protect.proofs.least_header.Reads as least-header-reads
-use Rattle.protect.proofs.number_fits.Reads as number-fits-reads
 
 returns : tie.Need-returns
 unfolding headerTests
@@ -25,14 +21,19 @@ number-fits-requires c κs = search needs
 
 returns-3 : tie.Need-returns-3
 unfolding headerTests
-returns-3 c = rw (le-leb _ _ (c .before .before .before .if1 .left), le-leb _ _ (c .before .before .if2 .left), denied (c .before .number-fits .ensures) (c .if3 .taken))
+returns-3 c =
+    let n = c .before in
+    rw (le-leb _ _ (n .before .before .if1 .left), le-leb _ _ (n .before .if2 .left), denied (n .number-fits .ensures) (c .if3 .taken))
 
 least-header-requires : tie.Need-least-header-requires
 least-header-requires c κs = told (c .before .number-fits .ensures) (c .if3 .left)
 
 returns-4 : tie.Need-returns-4
 unfolding headerTests
-returns-4 c = rw (le-leb _ _ (c .before .before .before .before .if1 .left), le-leb _ _ (c .before .before .before .if2 .left), told (c .before .before .number-fits .ensures) (c .before .if3 .left)) (ap (λ (x : ℕ). leb x (c .before .before .before .before .before .args .header-len)) (c .least-header .ensures))
+returns-4 c =
+    let n = c .before .before in
+    rw (le-leb _ _ (n .before .before .if1 .left), le-leb _ _ (n .before .if2 .left), told (n .number-fits .ensures) (c .before .if3 .left))
+    (ap (λ (x : ℕ). leb x (c .before .before .before .before .before .args .header-len)) (c .least-header .ensures))
 
 pub header-tests-spec : {M : Type 1} → statement M
 header-tests-spec =

@@ -1,13 +1,9 @@
-use mathlib.Core.Path.{_∙_, sym}
 use native.Mathlib.Omega.{arith}
 use Rattle.protect.specs.Said.{numberLenOf}
 use Rattle.protect.proofs.Cases.{fits-le}
 use borrow.Author.Needs.{needs}
 use Rattle.protect.proofs.least_header.Statement.{statement}
 use Rattle.protect.proofs.least_header.Tie as tie
-use Rattle.protect.proofs.least_header.Reads as reads
-use Rattle.protect.proofs.least_header.Lts as lts
-use Rattle.protect.proofs.bytes_of.Reads as bytes-of-reads
 
 bytes-of-requires : tie.Need-bytes-of-requires
 bytes-of-requires c κs = search needs

@@ -5,10 +5,6 @@ use Rattle.protect.proofs.Cases.{told, denied, changed-no, changed-ok, 
 use borrow.Author.Needs.{needs}
 use Rattle.protect.proofs.mask.Statement.{statement}
 use Rattle.protect.proofs.mask.Tie as tie
-use Rattle.protect.proofs.mask.Reads as reads
-use Rattle.protect.proofs.mask.Lts as lts
-use Rattle.protect.proofs.header_tests.Reads as header-tests-reads
-use Rattle.protect.proofs.protect_numbered.Reads as protect-numbered-reads
 
 header-tests-requires : tie.Need-header-tests-requires
 header-tests-requires c κs = search needs
@@ -25,10 +21,15 @@ enum-told c = search needs
 
 returns-2 : tie.Need-returns-2
 unfolding maskedOf
-returns-2 c = changed-ok _ _ (mask-none _ _ _ _ _ (told (c .before .before .before .header-tests .ensures) (c .before .before .if1 .left)) (ap numberLenOf (c .enum-told .given .1))) refl
+returns-2 c =
+    let t = c .before .before in
+    changed-ok _ _ (mask-none _ _ _ _ _ (told (t .before .header-tests .ensures) (t .if1 .left)) (ap numberLenOf (c .enum-told .given .1))) refl
 
 sub-protect-numbered : tie.Need-sub-protect-numbered
-sub-protect-numbered c = omega (arith, tests-room _ _ _ _ _ (ap numberLenOf (c .before .before .number .given .1)) (told (c .before .before .before .before .before .header-tests .ensures) (c .before .before .before .before .if1 .left)))
+sub-protect-numbered c =
+    let n = c .before .before in
+    let t = n .before .before .before in
+    omega (arith, tests-room _ _ _ _ _ (ap numberLenOf (n .number .given .1)) (told (t .header-tests .ensures) (n .before .before .if1 .left)))
 
 protect-numbered-requires : tie.Need-protect-numbered-requires
 protect-numbered-requires c κs = search needs
@@ -37,7 +38,10 @@ same-length : tie.Need-same-length
 same-length c = search needs
 
 returns-3 : tie.Need-returns-3
-returns-3 c = mask-on _ _ _ _ _ (told (c .before .before .before .before .before .before .before .before .header-tests .ensures) (c .before .before .before .before .before .before .before .if1 .left)) _ (ap numberLenOf (c .before .before .before .before .before .number .given .1)) (c .before .before .protect-numbered .ensures)
+returns-3 c =
+    let n = c .before .before .before .before .before in
+    let t = n .before .before .before in
+    mask-on _ _ _ _ _ (told (t .header-tests .ensures) (n .before .before .if1 .left)) _ (ap numberLenOf (n .number .given .1)) (c .before .before .protect-numbered .ensures)
 
 pub mask-spec : {M : Type 1} → statement M
 mask-spec =

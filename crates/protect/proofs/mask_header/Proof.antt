@@ -5,9 +5,6 @@ use Rattle.protect.proofs.Parts.{room, mask-part}
 use borrow.Author.Needs.{needs}
 use Rattle.protect.proofs.mask_header.Statement.{statement}
 use Rattle.protect.proofs.mask_header.Tie as tie
-use Rattle.protect.proofs.mask_header.Reads as reads
-use Rattle.protect.proofs.mask_header.Lts as lts
-use Rattle.protect.proofs.mask_number.Reads as mask-number-reads
 
 slice-write-packet : tie.Need-slice-write-packet
 slice-write-packet c = search needs
@@ -22,13 +19,18 @@ part-mask-number-end : tie.Need-part-mask-number-end
 part-mask-number-end c = search needs
 
 mask-number-requires : tie.Need-mask-number-requires
-mask-number-requires c κs = let a = c .before .before .args in (omega arith, room (a .packet .now) (a .number-offset) _ (a .n) (omega arith) (omega arith))
+mask-number-requires c κs =
+    let a = c .before .before .args in
+    (omega arith, room (a .packet .now) (a .number-offset) _ (a .n) (omega arith) (omega arith))
 
 same-length : tie.Need-same-length
 same-length c = c .before .packet .given .1 ∙ simp length-set
 
 returns : tie.Need-returns
-returns c = let a = c .before .before .before .before .before .args in mask-part (set (a .packet .now) 0 (a .first)) _ (a .number-offset) _ (simp length-set (omega arith)) (c .before .before .mask-number .ensures)
+returns c =
+    let a = c .before .before .before .before .before .args in
+    let s = set (a .packet .now) 0 (a .first) in
+    mask-part s _ (a .number-offset) _ (simp length-set (omega arith)) (c .before .before .mask-number .ensures)
 
 pub mask-header-spec : {M : Type 1} → statement M
 mask-header-spec =

@@ -6,8 +6,6 @@ use Rattle.protect.specs.Protection.{xor}
 use Rattle.protect.proofs.Xor.{length-xor, xor-none, xor-on}
 use Rattle.protect.proofs.mask_number.Statement.{statement}
 use Rattle.protect.proofs.mask_number.Tie as tie
-use Rattle.protect.proofs.mask_number.Reads as reads
-use Rattle.protect.proofs.mask_number.Lts as lts
 
 abbrev Inv-loop : tie.InvT-loop
 Inv-loop part₀ n mask i₀ part i = (i ≤ n) × (part ≡ xor (take i (drop 1 mask)) part₀)
@@ -19,7 +17,10 @@ loop-holds : tie.Need-loop-holds Inv-loop μ-loop
 loop-holds c = (omega arith, xor-none _)
 
 slice-read-part : tie.Need-slice-read-part Inv-loop μ-loop
-slice-read-part c = omega (arith, ap length (c .before .before .loop .inv .1), length-xor (take (c .before .before .loop .i) (drop 1 (c .before .before .before .args .t3))) (c .before .before .before .args .part .now))
+slice-read-part c =
+    let l = c .before .before .loop in
+    let e = ap length (l .inv .1) ∙ length-xor _ _ in
+    omega arith
 
 add-part : tie.Need-add-part Inv-loop μ-loop
 add-part c = omega arith
@@ -28,7 +29,10 @@ array-read-part : tie.Need-array-read-part Inv-loop μ-loop
 array-read-part c = omega arith
 
 slice-write-part : tie.Need-slice-write-part Inv-loop μ-loop
-slice-write-part c = omega (arith, ap length (c .before .before .loop .inv .1), length-xor (take (c .before .before .loop .i) (drop 1 (c .before .before .before .args .t3))) (c .before .before .before .args .part .now))
+slice-write-part c =
+    let l = c .before .before .loop in
+    let e = ap length (l .inv .1) ∙ length-xor _ _ in
+    omega arith
 
 add-i : tie.Need-add-i Inv-loop μ-loop
 add-i c = omega arith
@@ -39,14 +43,17 @@ loop-less c = omega arith
 loop-again : tie.Need-loop-again Inv-loop μ-loop
 loop-again c =
     let a = c .before .before .before .args in
-    let i = c .before .before .loop .i in
-    (omega arith, xor-on (a .t3) (a .part .now) _ i (c .before .before .loop .inv .1) (omega arith) (omega (arith, c .before .before .before .good .1 .1 .0)))
+    let l = c .before .before .loop in
+    (omega arith, xor-on (a .t3) (a .part .now) _ (l .i) (l .inv .1) (omega arith) (omega (arith, c .before .before .before .good .1 .1 .0)))
 
 same-length : tie.Need-same-length Inv-loop μ-loop
 same-length c = ap length (c .before .loop .inv .1) ∙ length-xor _ _
 
 returns : tie.Need-returns Inv-loop μ-loop
-returns c = let a = c .before .before .args in c .before .loop .inv .1 ∙ ap (λ (k : ℕ). xor (take k (drop 1 (a .t3))) (a .part .now)) {x = c .before .loop .i} {y = a .n} (omega arith)
+returns c =
+    let a = c .before .before .args in
+    let l = c .before .loop in
+    l .inv .1 ∙ ap (λ (k : ℕ). xor (take k (drop 1 (a .t3))) (a .part .now)) {x = l .i} {y = a .n} (omega arith)
 
 pub mask-number-spec : {M : Type 1} → statement M
 mask-number-spec =

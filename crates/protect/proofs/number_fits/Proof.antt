@@ -2,8 +2,6 @@ use borrow.Author.Tests.{le-leb, lt-leb}
 use borrow.Author.Needs.{needs}
 use Rattle.protect.proofs.number_fits.Statement.{statement}
 use Rattle.protect.proofs.number_fits.Tie as tie
-use Rattle.protect.proofs.number_fits.Reads as reads
-use Rattle.protect.proofs.number_fits.Lts as lts
 
 enum-known-number : tie.Need-enum-known-number
 enum-known-number c = search needs

@@ -1,5 +1,5 @@
 use Prim.Native.Nat.{_+_, _-_}
-use mathlib.Core.Path.{refl, sym}
+use mathlib.Core.Path.{refl}
 use native.Mathlib.Omega.{arith}
 use lib.ListN.{length}
 use Rattle.coding.proofs.Laws.{part-in, start-in, part-out, start-out}
@@ -8,9 +8,6 @@ use Rattle.protect.specs.Said.{numberLenOf}
 use borrow.Author.Needs.{needs}
 use Rattle.protect.proofs.payload_part.Statement.{statement}
 use Rattle.protect.proofs.payload_part.Tie as tie
-use Rattle.protect.proofs.payload_part.Reads as reads
-use Rattle.protect.proofs.payload_part.Lts as lts
-use Rattle.protect.proofs.bytes_of.Reads as bytes-of-reads
 
 bytes-of-requires : tie.Need-bytes-of-requires
 bytes-of-requires c κs = search needs
@@ -61,13 +58,14 @@ part-result-end c = search needs
 returns-3 : tie.Need-returns-3
 returns-3 c =
     let a = c .before .before .before .before .before .args in
-    let p = payloadPlace (a .number-offset) (numberLenOf (a .number)) (length (a .packet .now)) in
+    let s = a .packet .now in
     let b = c .before .before .before .bytes-of in
     let n = a .number-offset + b .result in
+    let p = payloadPlace (a .number-offset) (numberLenOf (a .number)) (length s) in
     record {
-      bytes = rw (← b .ensures) (part-in (a .packet .now) (record { start = n; len = length (a .packet .now) - n }) (length (a .packet .now) - n) refl (omega arith));
+      bytes = rw (← b .ensures) (part-in s (record { start = n; len = length s - n }) (length s - n) refl (omega arith));
       block = refl;
-      offset = omega (arith, b .ensures, start-in (a .packet .now) p (omega (arith, b .ensures)));
+      offset = omega (arith, b .ensures, start-in s p (omega (arith, b .ensures)));
     }
 
 pub payload-part-spec : {M : Type 1} → statement M

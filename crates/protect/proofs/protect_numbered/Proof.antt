@@ -1,20 +1,11 @@
-use Prim.Native.Nat.{_+_, _≤_}
+use lib.ListN.{length}
 use mathlib.Core.Path.{refl}
 use native.Mathlib.Omega.{arith}
-use lib.ListN.{length}
-use borrow.Author.Tests.{leb-true}
 use Rattle.protect.specs.Said.{maskedOf}
-use Rattle.protect.proofs.Cases.{told, denied, changed-no, changed-ok, protect-short, protect-form, protect-done}
+use Rattle.protect.proofs.Cases.{told, denied, reaches, changed-no, changed-ok, protect-short, protect-form, protect-done}
 use borrow.Author.Needs.{needs}
 use Rattle.protect.proofs.protect_numbered.Statement.{statement}
 use Rattle.protect.proofs.protect_numbered.Tie as tie
-use Rattle.protect.proofs.protect_numbered.Reads as reads
-use Rattle.protect.proofs.protect_numbered.Lts as lts
-use Rattle.protect.proofs.first_mask.Reads as first-mask-reads
-use Rattle.protect.proofs.form_bit.Reads as form-bit-reads
-use Rattle.protect.proofs.has_sample.Reads as has-sample-reads
-use Rattle.protect.proofs.mask_header.Reads as mask-header-reads
-use Rattle.protect.proofs.number_len.Reads as number-len-reads
 
 has-sample-requires : tie.Need-has-sample-requires
 has-sample-requires c κs = search needs
@@ -24,17 +15,26 @@ unfolding maskedOf
 returns c = changed-no _ _ (protect-short _ _ _ _ (denied (c .before .has-sample .ensures) (c .if1 .taken)))
 
 slice-read-if2 : tie.Need-slice-read-if2
-slice-read-if2 c = let a = c .before .before .before .before .args in let h : a .number-offset + 4 + 16 ≤ length (a .packet .now) = leb-true _ _ (told (c .before .before .has-sample .ensures) (c .before .if1 .left)) in search needs
+slice-read-if2 c =
+    let a = c .before .before .before .before .args in
+    let h = reaches (length (a .packet .now)) (a .number-offset) (c .before .before .has-sample .ensures) (c .before .if1 .left) in
+    search needs
 
 form-bit-requires : tie.Need-form-bit-requires
 form-bit-requires c κs = search needs
 
 returns-2 : tie.Need-returns-2
 unfolding maskedOf
-returns-2 c = changed-no _ _ (protect-form _ _ _ _ (told (c .before .before .before .before .has-sample .ensures) (c .before .before .before .if1 .left)) (c .before .form-bit .ensures) (c .if2 .taken))
+returns-2 c =
+    let s = c .before .before .before in
+    changed-no _ _ (protect-form _ _ _ _ (told (s .before .has-sample .ensures) (s .if1 .left)) (c .before .form-bit .ensures) (c .if2 .taken))
 
 slice-read-first : tie.Need-slice-read-first
-slice-read-first c = let a = c .before .before .before .before .before .before .before .args in let h : a .number-offset + 4 + 16 ≤ length (a .packet .now) = leb-true _ _ (told (c .before .before .before .before .before .has-sample .ensures) (c .before .before .before .before .if1 .left)) in search needs
+slice-read-first c =
+    let s = c .before .before .before .before in
+    let a = s .before .before .before .args in
+    let h = reaches (length (a .packet .now)) (a .number-offset) (s .before .has-sample .ensures) (s .if1 .left) in
+    search needs
 
 array-read-first-mask : tie.Need-array-read-first-mask
 array-read-first-mask c = search needs
@@ -46,14 +46,26 @@ number-len-requires : tie.Need-number-len-requires
 number-len-requires c κs = search needs
 
 mask-header-requires : tie.Need-mask-header-requires
-mask-header-requires c κs = let a = c .before .before .before .before .before .before .before .before .before .before .args in let h : a .number-offset + 4 + 16 ≤ length (a .packet .now) = leb-true _ _ (told (c .before .before .before .before .before .before .before .before .has-sample .ensures) (c .before .before .before .before .before .before .before .if1 .left)) in (omega (arith, c .number-len .ensures), omega arith)
+mask-header-requires c κs =
+    let s = c .before .before .before .before .before .before .before in
+    let a = s .before .before .before .args in
+    let h = reaches (length (a .packet .now)) (a .number-offset) (s .before .has-sample .ensures) (s .if1 .left) in
+    (omega (arith, c .number-len .ensures), omega arith)
 
 same-length : tie.Need-same-length
 same-length c = search needs
 
 returns-3 : tie.Need-returns-3
 unfolding maskedOf
-returns-3 c = changed-ok _ _ (protect-done _ _ _ _ (told (c .before .before .before .before .before .before .before .before .before .before .before .has-sample .ensures) (c .before .before .before .before .before .before .before .before .before .before .if1 .left)) (c .before .before .before .before .before .before .before .before .form-bit .ensures) (c .before .before .before .before .before .before .before .if2 .left) (c .before .before .before .before .before .first-mask .ensures) (c .before .before .before .number-len .ensures) (c .before .before .mask-header .ensures)) refl
+returns-3 c =
+    let n = c .before .before .before in
+    let f = n .before .before in
+    let b = f .before .before in
+    let s = b .before .before .before in
+    changed-ok _ _
+    (protect-done _ _ _ _ (told (s .before .has-sample .ensures) (s .if1 .left)) (b .before .form-bit .ensures) (b .if2 .left)
+    (f .first-mask .ensures) (n .number-len .ensures) (c .before .before .mask-header .ensures))
+    refl
 
 pub protect-numbered-spec : {M : Type 1} → statement M
 protect-numbered-spec =

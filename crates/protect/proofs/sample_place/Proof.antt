@@ -1,16 +1,10 @@
-use Prim.Native.Nat.{_+_}
-use native.Mathlib.Omega.{arith}
 use lib.ListN.{length}
-use borrow.Author.Tests.{leb-true}
+use native.Mathlib.Omega.{arith}
 use Rattle.protect.specs.Said.{sampleOf}
-use Rattle.protect.proofs.Cases.{told, denied, sample-big, sample-none, sample-zero, sample-short, sample-some}
+use Rattle.protect.proofs.Cases.{told, denied, reaches, sample-big, sample-none, sample-zero, sample-short, sample-some}
 use borrow.Author.Needs.{needs}
 use Rattle.protect.proofs.sample_place.Statement.{statement}
 use Rattle.protect.proofs.sample_place.Tie as tie
-use Rattle.protect.proofs.sample_place.Reads as reads
-use Rattle.protect.proofs.sample_place.Lts as lts
-use Rattle.protect.proofs.Kind.has_number.Reads as has-number-reads
-use Rattle.protect.proofs.has_sample.Reads as has-sample-reads
 
 returns : tie.Need-returns
 unfolding sampleOf
@@ -32,14 +26,22 @@ has-sample-requires c κs = search needs
 
 returns-4 : tie.Need-returns-4
 unfolding sampleOf
-returns-4 c = sample-short _ _ _ (c .before .before .before .before .before .if1 .left) (told (c .before .before .before .before .has-number .ensures) (c .before .before .before .if2 .left)) (c .before .before .if3 .left) (denied (c .before .has-sample .ensures) (c .if4 .taken))
+returns-4 c =
+    let k = c .before .before .before in
+    sample-short _ _ _ (k .before .before .if1 .left) (told (k .before .has-number .ensures) (k .if2 .left)) (c .before .before .if3 .left)
+    (denied (c .before .has-sample .ensures) (c .if4 .taken))
 
 add-start : tie.Need-add-start
-add-start c = let a = c .before .before .before .before .before .before .before .args in omega (arith, leb-true (a .number-offset + 4 + 16) (length (a .packet .now)) (told (c .before .has-sample .ensures) (c .if4 .left)))
+add-start c =
+    let a = c .before .before .before .before .before .before .before .args in
+    omega (arith, reaches (length (a .packet .now)) (a .number-offset) (c .before .has-sample .ensures) (c .if4 .left))
 
 returns-5 : tie.Need-returns-5
 unfolding sampleOf
-returns-5 c = sample-some _ _ _ (c .before .before .before .before .before .if1 .left) (told (c .before .before .before .before .has-number .ensures) (c .before .before .before .if2 .left)) (c .before .before .if3 .left) (told (c .before .has-sample .ensures) (c .if4 .left))
+returns-5 c =
+    let k = c .before .before .before in
+    sample-some _ _ _ (k .before .before .if1 .left) (told (k .before .has-number .ensures) (k .if2 .left)) (c .before .before .if3 .left)
+    (told (c .before .has-sample .ensures) (c .if4 .left))
 
 pub sample-place-spec : {M : Type 1} → statement M
 sample-place-spec =

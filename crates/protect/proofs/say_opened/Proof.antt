@@ -2,10 +2,6 @@ use Rattle.protect.proofs.Cases.{said-long, said-short}
 use borrow.Author.Needs.{needs}
 use Rattle.protect.proofs.say_opened.Statement.{statement}
 use Rattle.protect.proofs.say_opened.Tie as tie
-use Rattle.protect.proofs.say_opened.Reads as reads
-use Rattle.protect.proofs.say_opened.Lts as lts
-use Rattle.protect.proofs.cut.Reads as cut-reads
-use Rattle.protect.proofs.number_len.Reads as number-len-reads
 
 number-len-requires : tie.Need-number-len-requires
 number-len-requires c κs = search needs

@@ -6,8 +6,6 @@ use Rattle.text.specs.Decimal.{decimal}
 use Rattle.text.proofs.Laws.{length-one, length-more, length-u64, decimal-some}
 use Rattle.text.proofs.decimal_len.Statement.{statement}
 use Rattle.text.proofs.decimal_len.Tie as tie
-use Rattle.text.proofs.decimal_len.Reads as reads
-use Rattle.text.proofs.decimal_len.Lts as lts
 
 abbrev Inv-loop : tie.InvT-loop
 Inv-loop x v₀ n₀ v n = length (decimal x) + 1 ≡ n + length (decimal v)

@@ -1,13 +1,8 @@
-use mathlib.Core.Path.{ap}
 use native.Mathlib.Omega.{arith}
 use Rattle.coding.proofs.Writes.{put-not, put-fits}
 use borrow.Author.Needs.{needs}
 use Rattle.text.proofs.put_decimal.Statement.{statement}
 use Rattle.text.proofs.put_decimal.Tie as tie
-use Rattle.text.proofs.put_decimal.Reads as reads
-use Rattle.text.proofs.put_decimal.Lts as lts
-use Rattle.text.proofs.decimal_len.Reads as decimal-len-reads
-use Rattle.text.proofs.put_digits.Reads as put-digits-reads
 
 decimal-len-requires : tie.Need-decimal-len-requires
 decimal-len-requires c κs = search needs

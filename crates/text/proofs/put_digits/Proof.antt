@@ -9,8 +9,6 @@ use denote.Ref.{now}
 use Rattle.text.proofs.Steps.{lastOf, digit-more, rest-more, last-none, sets-decimal}
 use Rattle.text.proofs.put_digits.Statement.{statement}
 use Rattle.text.proofs.put_digits.Tie as tie
-use Rattle.text.proofs.put_digits.Reads as reads
-use Rattle.text.proofs.put_digits.Lts as lts
 
 abbrev Inv-loop : tie.InvT-loop
 Inv-loop buf₀ at n x v₀ i₀ buf v i = (i ≤ n) × ((buf ≡ sets buf₀ (at + i) (lastOf (n - i) x)) × (v ≡ x / 10 ^ (n - i)))
