@@ -32,6 +32,9 @@ step-back (ack.Range smallest largest) = refl
 step-back ack.End = refl
 step-back (ack.Refused why) = ap ack.Refused (refusal-back why)
 
+pub step-one : (x y : AckStep) (s : Step) → stepOf x ≡ s → stepOf y ≡ s → x ≡ y
+step-one = one-by stepOf unsaid step-back
+
 pub taken-one : (x y : AckTaken) (t : Taken) → takenOf x ≡ t → takenOf y ≡ t → x ≡ y
 unfolding takenOf
 taken-one =

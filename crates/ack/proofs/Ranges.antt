@@ -3,18 +3,17 @@ use mathlib.Core.Path.{_≡_, refl, sym, ap, _∙_}
 use mathlib.Core.List.{List, [], _∷_, _++_, map}
 use Prim.Native.Nat.{ℕ, zero, suc, _+_, _-_, _%_, _≤_, _<_, _^_}
 use native.Mathlib.Omega.{arith}
-use lib.Dec.{ltb, leb}
-use lib.ListN.{length, take, drop, getD, length-take, length-drop, take-append-drop}
+use lib.ListN.{length, take, drop, length-take, length-drop, take-append-drop}
 use lib.Seq.{getD-take, getD-drop, drop-drop, drop-append-le, take-append-le}
-use Rattle.coding.specs.Words.{if_then_else_, Got, got, andThen, Answer, ok}
+use Rattle.coding.specs.Words.{Got, got, andThen, ok}
 use Rattle.coding.specs.Bytes.{byteAt, be}
 use Rattle.coding.specs.Varint.{varLen, varAt}
 use Rattle.coding.specs.Places.{partOf}
-use Rattle.coding.proofs.Laws.{ReadVar, read-var, var-some, var-inside, part-in}
+use Rattle.coding.proofs.Laws.{read-var, var-some, var-inside, part-in}
 use Rattle.coding.proofs.Rules.{choices}
 use Rattle.ack.specs.Scan.{Range, rounds, scanAt, roundRanges, rangesAt}
-use Rattle.ack.specs.Step.{Step, range, end, Taken, ackStep, goOn, stepping}
-use Rattle.ack.proofs.Laws.{Inside, rounds-inside, scan-inside, Went, then-ok, if-ok}
+use Rattle.ack.specs.Step.{Step, range, end, ackStep, goOn, stepping}
+use Rattle.ack.proofs.Laws.{Inside, rounds-inside, scan-inside, then-ok, if-ok}
 
 -- ---- what is read of a list is read of a part that holds it
 
@@ -22,7 +21,7 @@ module _ (s : List ℕ) (at len : ℕ) (inside : at + len ≤ length s) where
   abbrev part : List ℕ
   part = take len (drop at s)
 
-  part-length : length part ≡ len
+  pub part-length : length part ≡ len
   part-length = simp (length-take, length-drop) (omega arith)
 
   -- the first k bytes from i on
@@ -59,16 +58,16 @@ abbrev pub one : ℕ → ℕ → Step
 one smallest largest = range (record { smallest = smallest; largest = largest })
 
 module _ (d : List ℕ) (i largest : ℕ) (short : length d ≤ 65527) (small : largest < 2 ^ 62) where
-  at-end : length d ≤ i → record { step = end; largest = largest; next = i } ≡ ackStep d i largest
+  pub at-end : length d ≤ i → record { step = end; largest = largest; next = i } ≡ ackStep d i largest
   unfolding ackStep
   at-end h = search choices
 
   module _ (block mid : ℕ) (e : varAt d i ≡ got block mid) (enough : block ≤ largest) (begun : i < length d) where
-    at-last : length d ≤ mid → record { step = one (largest - block) largest; largest = largest; next = mid } ≡ ackStep d i largest
+    pub at-last : length d ≤ mid → record { step = one (largest - block) largest; largest = largest; next = mid } ≡ ackStep d i largest
     unfolding ackStep
     at-last h = search (then-got, choices) depth 40 fits 4000
 
-    at-more : (gap next : ℕ) → varAt d mid ≡ got gap next → gap + 2 ≤ largest - block → mid < length d → next < length d
+    pub at-more : (gap next : ℕ) → varAt d mid ≡ got gap next → gap + 2 ≤ largest - block → mid < length d → next < length d
         → record { step = one (largest - block) largest; largest = largest - block - (gap + 2); next = next } ≡ ackStep d i largest
     unfolding ackStep
     at-more gap next f h k l = search (then-got, choices) depth 40 fits 4000
@@ -86,7 +85,7 @@ step-end n d i largest low next e = rw (← e)
 
 -- ---- the ranges
 
-round-range : (s : List ℕ) (n at low gap mid block past : ℕ) → varAt s at ≡ got gap mid → varAt s mid ≡ got block past
+pub round-range : (s : List ℕ) (n at low gap mid block past : ℕ) → varAt s at ≡ got gap mid → varAt s mid ≡ got block past
     → roundRanges s (suc n) at low
     ≡ record { smallest = low - (gap + 2) - block; largest = low - (gap + 2) } ∷ roundRanges s n past (low - (gap + 2) - block)
 unfolding roundRanges andThen
@@ -139,7 +138,7 @@ module _ (s : List ℕ) (at len : ℕ) (inside : at + len ≤ length s) (short :
       ∙ ap (λ (l : List Step). one low largest ∷ l)
       (ih ∙ ap (λ (rs : List Range). map range rs ++ (end ∷ [])) (sym (round-range s n mid low gap q (b .value) (b .next) (g .read) (b .read))))
 
-first-range : (s : List ℕ) (at largest n first after : ℕ) → varAt s at ≡ got first after
+pub first-range : (s : List ℕ) (at largest n first after : ℕ) → varAt s at ≡ got first after
     → rangesAt s at largest n ≡ record { smallest = largest - first; largest = largest } ∷ roundRanges s n after (largest - first)
 unfolding rangesAt andThen
 first-range s at largest n first after e = rw e

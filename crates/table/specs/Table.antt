@@ -1,20 +1,32 @@
 -- The worked examples marked P in document 01, "Bench examples", as one table. A row is a question and the reply that the
--- document gives; `answer` replies to a question by the definitions; `holds` says that it gives every row's reply.
--- To add a row: write it into `table`, and its number into src/lib.rt. For a new kind of question, first a constructor of
--- `Question` and a clause of `answer` by the definition in question, whose name goes on the `unfolding` line of proofs/Holds.antt;
--- for a new kind of reply, a constructor of `Reply` with a clause of `numbers`, and its way back in proofs/Holds.antt.
-use Prim.Native.Nat.{ℕ, _^_}
+-- document gives; `answer` replies to a question by the definitions; `Holds` says that it gives every row's reply.
+-- To add a row: write it into `table`, its `refl` into proofs/Holds.antt, and its number into src/lib.rt. For a new kind of
+-- question, first a constructor of `Question` and a clause of `answer` by the definition in question, whose name goes on the
+-- `unfolding` line of proofs/Holds.antt.
+use Prim.Native.Nat.{ℕ, _+_, _^_}
 use mathlib.Core.List.{List, [], _∷_}
-use mathlib.Core.Bool.{Bool, true, false, _&&_}
-use lib.Dec.{eqb}
+use mathlib.Core.Bool.{Bool, true, false}
+use mathlib.Core.Path.{_≡_}
 use Rattle.coding.specs.Words.{Got, cut, got, Answer, no, ok}
 use Rattle.coding.specs.Varint.{varAt, varOut}
+use Rattle.shared.specs.declared.kinds.CutNumber.{CutNumber}
+use Rattle.number.specs.Cutting as number
+use Rattle.number.specs.Cutting.{cutMade}
+use Rattle.number.specs.Expanding.{expanded}
+use Rattle.shared.specs.Cid.{cidOf}
+use Rattle.packet.specs.Header.{Outcome, negotiate, refuse, headed, headerAt}
 
 pub data Question : Type 0 where
   -- the integer at the start of these bytes
   readVar : List ℕ → Question
   -- the bytes that an integer is written as
   writeVar : ℕ → Question
+  -- a number to be sent, cut by the largest acknowledged
+  cutNumber : ℕ → ℕ → Question
+  -- the full number of a cut one (its length and its value), by the expected one
+  expandNumber : ℕ → ℕ → ℕ → Question
+  -- the header at the start of a datagram: local CID length 0, version 1, and whether grease is on
+  readHeader : List ℕ → Bool → Question
 
 pub data Reply : Type 0 where
   -- a refusal, by its number
@@ -23,8 +35,14 @@ pub data Reply : Type 0 where
   value : ℕ → ℕ → Reply
   -- what is written
   bytes : List ℕ → Reply
+  -- a cut number: its length, and its value
+  cutAs : ℕ → ℕ → Reply
+  -- a full number
+  full : ℕ → Reply
+  -- a header with all that stands beside it, or its refusal with all that it carries
+  header : Outcome → Reply
 
--- what a read replies, and a writer
+-- what a read replies, a writer, a cut, and an expansion
 unfoldable pub found : Got ℕ → Reply
 found cut = refused 10
 found (got v next) = value v next
@@ -33,9 +51,24 @@ unfoldable pub written : Answer (List ℕ) → Reply
 written (no k) = refused k
 written (ok bs) = bytes bs
 
+unfoldable pub made : Answer CutNumber → Reply
+made (no k) = refused k
+made (ok c) = cutAs (c .0) (c .1)
+
+unfoldable pub grown : Answer ℕ → Reply
+grown (no k) = refused k
+grown (ok n) = full n
+
 unfoldable pub answer : Question → Reply
 answer (readVar s) = found (varAt s 0)
 answer (writeVar x) = written (varOut x)
+answer (cutNumber n acked) = made (cutMade n acked)
+answer (expandNumber k v expected) = grown (expanded (number.cut k v) expected)
+answer (readHeader s grease) = header (headerAt s 0 (1 ∷ []) grease)
+
+-- a refusal that carries both connection ids and the version
+abbrev pub carrying : ℕ → List ℕ → List ℕ → ℕ → Outcome
+carrying k to from version = record { said = no k; dst = cidOf to; src = cidOf from; version = version; end = 0 }
 
 pub record Row : Type 0 where
   pub asked : Question
@@ -55,20 +88,24 @@ table =
     writeVar 16384 gives bytes (0x80 ∷ 0x00 ∷ 0x40 ∷ 0x00 ∷ []) ∷
     -- 2^62 is 14
     writeVar (2 ^ 62) gives refused 14 ∷
+    -- 80 00000000 00 00 is 2, with grease Version Negotiation 0
+    readHeader (0x80 ∷ 0x00 ∷ 0x00 ∷ 0x00 ∷ 0x00 ∷ 0x00 ∷ 0x00 ∷ []) false gives header (refuse 2) ∷
+    readHeader (0x80 ∷ 0x00 ∷ 0x00 ∷ 0x00 ∷ 0x00 ∷ 0x00 ∷ 0x00 ∷ []) true gives header (headed (cidOf []) (cidOf []) 0 (negotiate 0) 7) ∷
+    -- e0 00000002 00 00 is 4
+    readHeader (0xe0 ∷ 0x00 ∷ 0x00 ∷ 0x00 ∷ 0x02 ∷ 0x00 ∷ 0x00 ∷ []) false gives header (carrying 4 [] [] 2) ∷
+    -- c0 00000001 00 00 05 aa is 5
+    readHeader (0xc0 ∷ 0x00 ∷ 0x00 ∷ 0x00 ∷ 0x01 ∷ 0x00 ∷ 0x00 ∷ 0x05 ∷ 0xaa ∷ []) false gives header (refuse 5) ∷
+    -- d = 127 takes one byte, 128 two, 2147483648 is 16
+    cutNumber (1000 + 127) 1000 gives cutAs 1 0x67 ∷
+    cutNumber (1000 + 128) 1000 gives cutAs 2 0x0468 ∷
+    cutNumber (1000 + 2147483648) 1000 gives refused 16 ∷
+    -- expected 128, byte 00 gives 256; expected 127 gives 0
+    expandNumber 1 0x00 128 gives full 256 ∷
+    expandNumber 1 0x00 127 gives full 0 ∷
     []
 
--- a reply as numbers: its kind and what it holds; two replies are the same if these are
-unfoldable pub numbers : Reply → List ℕ
-numbers (refused k) = 0 ∷ k ∷ []
-numbers (value v next) = 1 ∷ v ∷ next ∷ []
-numbers (bytes bs) = 2 ∷ bs
-
-unfoldable pub same : List ℕ → List ℕ → Bool
-same [] [] = true
-same (a ∷ xs) (b ∷ ys) = eqb a b && same xs ys
-same [] (b ∷ ys) = false
-same (a ∷ xs) [] = false
-
-unfoldable pub holds : List Row → Bool
-holds [] = true
-holds (row ∷ rows) = same (numbers (answer (row .asked))) (numbers (row .told)) && holds rows
+-- every row's question is answered as the row says
+infixr 60 _also_
+pub data Holds : List Row → Type 0 where
+  none : Holds []
+  _also_ : {row : Row} {rows : List Row} → answer (row .asked) ≡ row .told → Holds rows → Holds (row ∷ rows)

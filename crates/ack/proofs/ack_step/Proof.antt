@@ -1,4 +1,3 @@
-use mathlib.Core.Path.{refl}
 use native.Mathlib.Omega.{arith}
 use denote.Ref.{now}
 use Rattle.coding.proofs.Rules.{steps}
@@ -8,10 +7,6 @@ use Rattle.ack.proofs.Laws.{var-small}
 use borrow.Author.Needs.{needs}
 use Rattle.ack.proofs.ack_step.Statement.{statement}
 use Rattle.ack.proofs.ack_step.Tie as tie
-use Rattle.ack.proofs.ack_step.Reads as reads
-use Rattle.ack.proofs.ack_step.Lts as lts
-use Rattle.ack.proofs.refused.Reads as refused-reads
-use Rattle.coding.proofs.get_var.Reads as get-var-reads
 
 refused-requires : tie.Need-refused-requires
 refused-requires c κs = search needs

@@ -3,8 +3,6 @@ use Rattle.ack.specs.Step.{refuse}
 use Rattle.ack.specs.Said.{stepOf, takenOf}
 use Rattle.ack.proofs.refused.Statement.{statement}
 use Rattle.ack.proofs.refused.Tie as tie
-use Rattle.ack.proofs.refused.Reads as reads
-use Rattle.ack.proofs.refused.Lts as lts
 
 returns : tie.Need-returns
 unfolding takenOf stepOf refuse

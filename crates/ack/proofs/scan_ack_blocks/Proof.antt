@@ -4,10 +4,6 @@ use Rattle.ack.specs.Said.{scannedOf}
 use borrow.Author.Needs.{needs}
 use Rattle.ack.proofs.scan_ack_blocks.Statement.{statement}
 use Rattle.ack.proofs.scan_ack_blocks.Tie as tie
-use Rattle.ack.proofs.scan_ack_blocks.Reads as reads
-use Rattle.ack.proofs.scan_ack_blocks.Lts as lts
-use Rattle.ack.proofs.scan_rounds.Reads as scan-rounds-reads
-use Rattle.coding.proofs.get_var.Reads as get-var-reads
 
 returns : tie.Need-returns
 unfolding scanned scannedOf

@@ -1,6 +1,6 @@
 use lib.ListN.{length}
 use Prim.Native.Nat.{_-_, _<_, _^_}
-use mathlib.Core.Path.{_≡_, refl, sym, _∙_}
+use mathlib.Core.Path.{_≡_, refl}
 use native.Mathlib.Omega.{arith}
 use borrow.Author.Needs.{needs}
 use denote.Ref.{now}
@@ -10,9 +10,6 @@ use Rattle.ack.specs.Said.{scannedOf}
 use Rattle.ack.proofs.Laws.{var-small, var-past, none, one}
 use Rattle.ack.proofs.scan_rounds.Statement.{statement}
 use Rattle.ack.proofs.scan_rounds.Tie as tie
-use Rattle.ack.proofs.scan_rounds.Reads as reads
-use Rattle.ack.proofs.scan_rounds.Lts as lts
-use Rattle.coding.proofs.get_var.Reads as get-var-reads
 
 abbrev Inv-loop : tie.InvT-loop
 Inv-loop s at low n smallest₀ p₀ left₀ smallest p left = (rounds s left p smallest ≡ rounds s n at low) × ((smallest < 2 ^ 64) × (left < 2 ^ 64))

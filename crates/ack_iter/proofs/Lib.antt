@@ -1,0 +1,4 @@
+-- `Ranges` has that the reader hands out the scan's ranges, `Onces` that each public function has only one answer; `Tails` is for `rest_of`.
+pub mod Tails
+pub mod Ranges
+pub mod Onces

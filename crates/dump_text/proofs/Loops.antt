@@ -1,0 +1,129 @@
+-- What one turn of the dump's loop does. Assumes nothing.
+use mathlib.Core.Path.{_≡_, refl, sym, ap, _∙_}
+use mathlib.Core.List.{List, [], _∷_, _++_, append-assoc, append-nil}
+use mathlib.Core.Bool.{false}
+use mathlib.Core.Option.{Option, none, some}
+use Prim.Native.Nat.{ℕ, zero, suc, _+_, _*_, _≤_, _<_}
+use native.Mathlib.Omega.{arith}
+use lib.ListN.{length, length-append}
+use borrow.Author.Tests.{le-leb, lt-leb}
+use Rattle.coding.specs.Words.{if_then_else_, Answer, no, ok}
+use Rattle.coding.specs.Writing.{Put}
+use Rattle.coding.proofs.Laws.{length-splice}
+use Rattle.coding.proofs.Writes.{So, so-none, so-put}
+use Rattle.packet.specs.Walk.{Met}
+use Rattle.packet.proofs.Walks.{Meets, repeated, walk-steps, step-meets}
+use Rattle.dump_text.specs.Dump.{linesOf, dumpText, dumpRoom, dumpOut, nextOf}
+use Rattle.dump_text.specs.Turns.{stepHere, lineAt, nextIn, placeIn}
+use Rattle.dump_text.specs.declared.Turn.{Turn}
+use Rattle.dump_text.specs.declared.Turn.the-variants as turn
+use Rattle.dump_text.proofs.Texts.{Packet, next-some, more-text, last-text}
+
+-- ---- the room
+
+module _ (s : List ℕ) (room : ℕ) where
+  pub out-no : room < 4 * length s + 64 → dumpOut s room ≡ no 15
+  unfolding dumpOut dumpRoom if_then_else_
+  out-no h = rw (lt-leb _ _ h)
+
+  pub out-ok : 4 * length s + 64 ≤ room → dumpOut s room ≡ ok (dumpText s)
+  unfolding dumpOut dumpRoom if_then_else_
+  out-ok h = rw (le-leb _ _ h)
+
+pub so-length : {old bs new : List ℕ} {r : ℕ} → So old 0 bs r new → length bs ≤ length old → length new ≡ length old
+so-length {old} {bs} s h = rw (s .bytes) (length-splice old bs 0 (omega arith))
+
+-- ---- what a turn answered, by what was seen of it
+
+module _ (t : Turn) where
+  pub told-next : (next p : ℕ) (o : Option ℕ) → t ≡ turn.More next p → nextIn t ≡ o → some next ≡ o
+  unfolding nextIn
+  told-next next p o e f = rw e at f
+
+  pub told-place : (next p : ℕ) → t ≡ turn.More next p → placeIn t ≡ p
+  unfolding placeIn
+  told-place next p e = rw e
+
+  pub told-end : (p : ℕ) (o : Option ℕ) → t ≡ turn.Done p → nextIn t ≡ o → none ≡ o
+  unfolding nextIn
+  told-end p o e f = rw e at f
+
+  pub told-last : (p : ℕ) → t ≡ turn.Done p → placeIn t ≡ p
+  unfolding placeIn
+  told-last p e = rw e
+
+-- ---- the text so far, and what the steps from a place on add to it
+
+abbrev restText : List ℕ → ℕ → ℕ → List ℕ
+restText s turns at = linesOf (length s) (repeated (suc turns) s at 0 (1 ∷ []) false)
+
+pub record Going (s old buf : List ℕ) (at p : ℕ) : Type 0 where
+  pub turns : ℕ
+  pub enough : length s ≤ turns + at
+  pub said : List ℕ
+  pub so : So old 0 said p buf
+  pub rest : said ++ restText s turns at ≡ dumpText s
+
+pub going-start : (s old : List ℕ) → Going s old old 0 0
+unfolding dumpText
+going-start s old =
+    record {
+      turns = length s;
+      enough = omega arith;
+      said = [];
+      so = so-none old 0;
+      rest = ap (linesOf (length s)) (walk-steps s 0 (1 ∷ []) false);
+    }
+
+-- the packet that a step meets moves the place
+pub moves : (s : List ℕ) (at next : ℕ) → some next ≡ nextOf (stepHere s at .met) → (at < next) × (next ≤ length s)
+moves s at next e =
+    let p = next-some (stepHere s at .met) next e in
+    let m = step-meets s 0 (1 ∷ []) false at (p .start) (p .len) (p .is) in
+    omega (arith, m, p .end)
+
+-- a step's line is the first of what is left
+line-le : (s : List ℕ) (turns at : ℕ) → length (lineAt s at) ≤ length (restText s turns at)
+line-le s turns at = go (nextOf (stepHere s at .met)) refl
+  where
+    go : (o : Option ℕ) → o ≡ nextOf (stepHere s at .met) → length (lineAt s at) ≤ length (restText s turns at)
+    go none e = rw (last-text s at turns e) (omega arith)
+    go (some next) e =
+        let p = next-some (stepHere s at .met) next e in
+        rw (more-text s at turns (p .start) (p .len) (p .is)) (simp length-append (omega arith))
+
+module _ {s old buf : List ℕ} {at p : ℕ} (g : Going s old buf at p) (fits : length (dumpText s) ≤ length old) where
+  all : length (g .said) + length (lineAt s at) ≤ length old
+  all =
+      let l : length (g .said) + length (restText s (g .turns) at) ≡ length (dumpText s) = sym (length-append (g .said) (restText s (g .turns) at)) ∙ ap length (g .rest) in
+      omega (arith, line-le s (g .turns) at)
+
+  pub going-room : p + length (lineAt s at) ≤ length buf
+  going-room =
+      let a = all in
+      let l : length buf ≡ length old = so-length (g .so) (omega arith) in
+      omega (arith, g .so .place)
+
+  module _ {new : List ℕ} {r : ℕ} (put : Put (lineAt s at) buf p r new) where
+    pub going-done : none ≡ nextOf (stepHere s at .met) → So old 0 (dumpText s) r new
+    going-done e =
+        let t : g .said ++ lineAt s at ≡ dumpText s = sym (ap (λ (l : List ℕ). g .said ++ l) (last-text s at (g .turns) e)) ∙ g .rest in
+        rw t at (so-put (g .so) (let a = all in omega arith) put)
+
+    more : (next turns : ℕ) → length s ≤ turns + at → g .said ++ restText s turns at ≡ dumpText s → some next ≡ nextOf (stepHere s at .met) → Going s old new next r
+    more next zero l t e = let m = moves s at next e in absurd (omega arith)
+    more next (suc turns) l t e =
+        let q = next-some (stepHere s at .met) next e in
+        let m = moves s at next e in
+        let u : restText s (suc turns) at ≡ lineAt s at ++ restText s turns (q .start + q .len) = more-text s at (suc turns) (q .start) (q .len) (q .is) in
+        let v : restText s turns (q .start + q .len) ≡ restText s turns next = ap (restText s turns) (q .end) in
+        record {
+          turns = turns;
+          enough = omega arith;
+          said = g .said ++ lineAt s at;
+          so = so-put (g .so) (let a = all in omega arith) put;
+          rest = append-assoc (g .said) (lineAt s at) (restText s turns next) ∙ ap (λ (l : List ℕ). g .said ++ l) (sym (u ∙ ap (λ (l : List ℕ). lineAt s at ++ l) v)) ∙ t;
+        }
+
+    pub going-more : (next : ℕ) → some next ≡ nextOf (stepHere s at .met) → Going s old new next r
+    going-more next e = more next (g .turns) (g .enough) (g .rest) e

@@ -1,0 +1,19 @@
+use borrow.Author.Needs.{needs}
+use Rattle.packet.proofs.partial.PartialDecode.token.Statement.{statement}
+use Rattle.packet.proofs.partial.PartialDecode.token.Tie as tie
+use Rattle.packet.proofs.partial.PartialDecode.token.Reads as reads
+use Rattle.packet.proofs.partial.PartialDecode.token.Lts as lts
+use Rattle.coding.proofs.part.Reads as part-reads
+use Rattle.packet.proofs.partial.token_place.Reads as token-place-reads
+
+token-place-requires : tie.Need-token-place-requires
+token-place-requires c κs = search needs
+
+part-requires : tie.Need-part-requires
+part-requires c κs = search needs
+
+returns : tie.Need-returns
+returns c = rw (← c .before .token-place .ensures) (c .part .ensures)
+
+pub token-spec : {M : Type 1} → statement M
+token-spec = tie.close (tie.spec token-place-requires part-requires returns)
