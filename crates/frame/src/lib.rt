@@ -57,7 +57,7 @@ pub struct SizedStep {
 }
 
 // The frame at a place, in a slice of any length: the payload's own rule is tested by `step`.
-pub fn read_frame(s: &[u8], start: usize) -> FrameRead
+pub(crate) fn read_frame(s: &[u8], start: usize) -> FrameRead
     ensures { λ r. ⌜ saidOf r ≡ frameAt table (now (s .entry)) start ⌝ }
 {
     let VarRead::Var(number, at) = coding::get_var(s, start) else {
