@@ -4,8 +4,6 @@ mod refusal; // refusal.rt: what a call may say no with
 mod varint; // varint.rt: variable-length integers
 
 pub use refusal::Refusal;
-pub use varint::MAX;
-pub use varint::MAX_SIZE;
 pub use varint::Sized;
 pub use varint::VarInt;
 pub use varint::VarMade;

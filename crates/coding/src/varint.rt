@@ -9,12 +9,6 @@ ghost use Rattle.coding.specs.Said.{madeOf, sizedOf, wroteOf};
 // An integer less than 2^62.
 pub struct VarInt(pub u64);
 
-// The largest representable value.
-pub const MAX: VarInt = VarInt(0x3fff_ffff_ffff_ffff);
-
-// The largest encoded value length.
-pub const MAX_SIZE: usize = 8;
-
 // An integer, or a refusal.
 pub enum VarMade {
     Var(VarInt),
@@ -28,6 +22,12 @@ pub enum Sized {
 }
 
 impl VarInt {
+    // The largest representable value.
+    pub const MAX: VarInt = VarInt(0x3fff_ffff_ffff_ffff);
+
+    // The largest encoded value length.
+    pub const MAX_SIZE: usize = 8;
+
     pub fn from_u32(x: u32) -> VarInt
         ensures { λ r. ⌜ r .0 ≡ x ⌝ }
     {

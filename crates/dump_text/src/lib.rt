@@ -69,7 +69,7 @@ fn put_packet(buf: &mut [u8], at: usize, place: Place, plain: Decoded) -> usize
 {
     let header = plain.header;
     let a = put_word(buf, at, place.start as u64, b' ');
-    let b = put_word(buf, a, 9, b' ');
+    let b = put_word(buf, a, place.len as u64, b' ');
     let c = put_kind(buf, b, header);
     put_word(buf, c, plain.number_offset as u64, b'\n')
 }
