@@ -1,0 +1,153 @@
+-- A packet's header as it is written: RFC 9000, 17.2 and 17.3; Version Negotiation: 17.2.1.
+use Prim.Native.Nat.{ℕ, _+_, _-_, _*_, _%_}
+use mathlib.Core.Path.{_≡_}
+use mathlib.Core.List.{List, [], _∷_, _++_}
+use mathlib.Core.Bool.{Bool, true, false, _&&_}
+use mathlib.Core.Option.{Option, none, some}
+use lib.ListN.{length}
+use lib.Dec.{leb}
+use Rattle.coding.specs.Words.{if_then_else_, Answer, no, ok}
+use Rattle.coding.specs.Bytes.{bytesBE}
+use Rattle.coding.specs.Varint.{varBytes}
+use Rattle.coding.specs.Writing.{inRoom, lengthOf, intoBuffer}
+use Rattle.shared.specs.Cid.{cidBytes, longBytes}
+use Rattle.shared.specs.declared.cid.ConnectionId.{ConnectionId}
+use Rattle.shared.specs.declared.kinds.CutNumber.{CutNumber}
+use Rattle.number.specs.Cutting.{isCut}
+use Rattle.packet.specs.TypeBits.{PacketType, bitsOf}
+use Rattle.packet.specs.TypeBits as type
+
+-- the kinds of header, with what each has besides its connection ids and token: Initial, 0-RTT and Handshake their number
+-- and version; Retry its version; a short header its spin bit, key phase and number; Version Negotiation the bits below
+-- the form bit
+pub data Plain : Type 0 where
+  initial : CutNumber → ℕ → Plain
+  zeroRtt : CutNumber → ℕ → Plain
+  handshake : CutNumber → ℕ → Plain
+  retry : ℕ → Plain
+  short : Bool → Bool → CutNumber → Plain
+  negotiate : ℕ → Plain
+
+-- the packet number, where there is one
+unfoldable pub numberIn : Plain → Option CutNumber
+numberIn (initial c v) = some c
+numberIn (zeroRtt c v) = some c
+numberIn (handshake c v) = some c
+numberIn (retry v) = none
+numberIn (short spin phase c) = some c
+numberIn (negotiate bits) = none
+
+-- the two low bits of the first byte are the number's length less one
+abbrev pub lowBits : CutNumber → ℕ
+lowBits c = c .0 - 1
+
+-- a bit of the first byte
+unfoldable pub bit : Bool → ℕ → ℕ
+bit b x = if b then x else 0
+
+-- 17.2: the form bit and the fixed bit, the type in 0x30; the reserved bits are 0
+unfoldable pub longFirst : ℕ → ℕ
+longFirst bits = 0xc0 + bits * 16
+
+-- 17.3.1: the fixed bit, the spin bit, the key phase; the reserved bits are 0
+unfoldable pub shortFirst : Bool → Bool → ℕ
+shortFirst spin phase = 0x40 + bit spin 0x20 + bit phase 0x04
+
+-- what stands around the connection ids: the first byte; the version, which a short header lacks; whether there is a token,
+-- and a Length
+pub record Shape : Type 0 where
+  pub first : ℕ
+  pub version : Option ℕ
+  pub hasToken : Bool
+  pub hasLength : Bool
+
+abbrev pub longShape : ℕ → ℕ → Bool → Bool → Shape
+longShape first version hasToken hasLength = record { first = first; version = some version; hasToken = hasToken; hasLength = hasLength }
+
+abbrev pub shortShape : ℕ → Shape
+shortShape first = record { first = first; version = none; hasToken = false; hasLength = false }
+
+-- by the kind, for any bits of the types
+unfoldable pub shapeBy : (PacketType → ℕ) → Plain → Shape
+shapeBy bits (initial c v) = longShape (longFirst (bits type.initial) + lowBits c) v true true
+shapeBy bits (zeroRtt c v) = longShape (longFirst (bits type.zeroRtt) + lowBits c) v false true
+shapeBy bits (handshake c v) = longShape (longFirst (bits type.handshake) + lowBits c) v false true
+shapeBy bits (retry v) = longShape (longFirst (bits type.retry)) v false false
+shapeBy bits (short spin phase c) = shortShape (shortFirst spin phase + lowBits c)
+shapeBy bits (negotiate random) = longShape (0x80 + random % 0x80) 0 false false
+
+-- ---- the fields past the first byte
+
+-- the version and both connection ids, each behind its length; in a short header the destination's bytes alone
+unfoldable pub namesBytes : Option ℕ → ConnectionId → ConnectionId → List ℕ
+namesBytes none dst src = cidBytes dst
+namesBytes (some version) dst src = bytesBE 4 version ++ (longBytes dst ++ longBytes src)
+
+-- 17.2.2: the token behind its length
+unfoldable pub tokenBytes : Bool → List ℕ → List ℕ
+tokenBytes has token = if has then varBytes (length token) ++ token else []
+
+-- the Length's two bytes
+unfoldable pub lengthBytes : Bool → List ℕ → List ℕ
+lengthBytes has field = if has then field else []
+
+-- 17.1: the number's bytes
+unfoldable pub numberField : Option CutNumber → List ℕ
+numberField none = []
+numberField (some c) = bytesBE (c .0) (c .1)
+
+-- ---- the header, with these bytes for its Length
+
+unfoldable pub shapeBytes : List ℕ → Shape → Option CutNumber → ConnectionId → ConnectionId → List ℕ → List ℕ
+shapeBytes field shape number dst src token =
+    shape .first
+    ∷ (namesBytes (shape .version) dst src ++ (tokenBytes (shape .hasToken) token ++ (lengthBytes (shape .hasLength) field ++ numberField number)))
+
+unfoldable pub headerBy : (PacketType → ℕ) → List ℕ → Plain → ConnectionId → ConnectionId → List ℕ → List ℕ
+headerBy bits field p dst src token = shapeBytes field (shapeBy bits p) (numberIn p) dst src token
+
+-- its place is kept by two bytes of 0
+abbrev pub placeholder : List ℕ
+placeholder = bytesBE 2 0
+
+abbrev pub headerBytes : Plain → ConnectionId → ConnectionId → List ℕ → List ℕ
+headerBytes = headerBy bitsOf placeholder
+
+-- ---- what encode writes and answers
+
+-- a number's rule, where there is one
+unfoldable pub numberKeeps : Option CutNumber → Bool
+numberKeeps none = true
+numberKeeps (some c) = isCut c
+
+-- the connection ids and the number keep their rules
+unfoldable pub keepRules : Option CutNumber → ConnectionId → ConnectionId → Bool
+keepRules number dst src = leb (dst .len) 20 && leb (src .len) 20 && numberKeeps number
+
+-- a header has at most 65,527 bytes: past that it is 14
+unfoldable pub inHeader : {A : Type 0} → List ℕ → A → Answer A
+inHeader bs a = if leb (length bs) 65527 then ok a else no 14
+
+-- what encode writes: 14 comes before all else
+unfoldable pub headerOut : Plain → ConnectionId → ConnectionId → List ℕ → Answer (List ℕ)
+headerOut p dst src token =
+    if keepRules (numberIn p) dst src then inHeader (headerBytes p dst src token) (headerBytes p dst src token) else no 14
+
+-- the header's length, its number's length, where it has one, and whether a Length is to be set
+pub record Partial : Type 0 where
+  pub headerLen : ℕ
+  pub number : Option ℕ
+  pub hasLength : Bool
+
+unfoldable pub numberLenIn : Option CutNumber → Option ℕ
+numberLenIn none = none
+numberLenIn (some c) = some (c .0)
+
+unfoldable pub partialOf : Plain → Answer ℕ → Answer Partial
+partialOf p (no k) = no k
+partialOf p (ok n) = ok (record { headerLen = n; number = numberLenIn (numberIn p); hasLength = shapeBy bitsOf p .hasLength })
+
+-- encode of a header into the buffer `old` says `said` and leaves `new`
+pub record Encodes (p : Plain) (dst src : ConnectionId) (token old : List ℕ) (said : Answer Partial) (new : List ℕ) : Type 0 where
+  pub says : said ≡ partialOf p (lengthOf (inRoom (length old) (headerOut p dst src token)))
+  pub leaves : new ≡ intoBuffer (inRoom (length old) (headerOut p dst src token)) old

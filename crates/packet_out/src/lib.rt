@@ -1,0 +1,297 @@
+// Packets out: a header into a lent buffer, and its Length (packet.rs, Header::encode and PartialEncode::finish; RFC 9000, 17).
+// Encryption follows, and then protect's mask step.
+mod header; // header.rt: the kinds of header, and what stands around the connection ids
+
+use coding::Refusal;
+use coding::Sized;
+use coding::VarInt;
+use header::Form;
+pub use header::Header;
+pub use header::HeaderNumber;
+use header::Version;
+use number::Tagged;
+use protect::NumberLen;
+use shared::ConnectionId;
+ghost use mathlib.Core.Path.{_≡_};
+ghost use mathlib.Core.Bool.{true};
+ghost use Prim.Native.Nat.{_+_, _≤_};
+ghost use lib.ListN.{length};
+ghost use Rattle.coding.specs.Said.{sizedOf};
+ghost use Rattle.coding.specs.Writing.{Put};
+ghost use Rattle.protect.specs.Said.{numberLenOf};
+ghost use Rattle.protect.specs.Tests.{numberBytes};
+ghost use Rattle.packet_out.specs.Encoding.{Encodes, namesBytes, tokenBytes, lengthBytes, numberField, placeholder, numberKeeps, keepRules, numberLenIn, inHeader};
+ghost use Rattle.packet_out.specs.Length.{PutsLength, SetsLength};
+ghost use Rattle.packet_out.specs.Said.{plainOf, cutOf, versionOf, formBytes, encodedOf, setOf};
+
+// The most bytes of a header, as of a packet.
+const MAX_HEADER: usize = 65527;
+
+// What a header was written with: its length, its number's, and whether a Length is to be set.
+pub struct PartialEncode {
+    pub header_len: usize,
+    pub number: NumberLen,
+    pub has_length: bool,
+}
+
+// A header was written, or a refusal.
+pub enum Encoded {
+    Partial(PartialEncode),
+    Refused(Refusal),
+}
+
+// The Length step is done, or a refusal.
+pub enum LengthSet {
+    Done,
+    Refused(Refusal),
+}
+
+// Whether a number keeps its rule, where there is one.
+fn number_keeps(number: HeaderNumber) -> bool
+    ensures { λ r. ⌜ r ≡ numberKeeps (cutOf number) ⌝ }
+{
+    let HeaderNumber::Cut(c) = number else {
+        return true;
+    };
+    let Tagged::Tag(_) = number::tag(c) else {
+        return false;
+    };
+    true
+}
+
+// Whether the connection ids and the number keep their rules.
+fn keep_rules(number: HeaderNumber, dst_cid: ConnectionId, src_cid: ConnectionId) -> bool
+    ensures { λ r. ⌜ r ≡ keepRules (cutOf number) «dst_cid» «src_cid» ⌝ }
+{
+    if 20 < dst_cid.len {
+        return false;
+    }
+    if 20 < src_cid.len {
+        return false;
+    }
+    number_keeps(number)
+}
+
+// The bytes of the version and the connection ids.
+fn names_size(version: Version, dst_cid: ConnectionId, src_cid: ConnectionId) -> usize
+    requires { ⌜ («dst_cid» .len ≤ 20) × («src_cid» .len ≤ 20) ⌝ }
+    ensures { λ r. ⌜ (r ≡ length (namesBytes (versionOf version) «dst_cid» «src_cid»)) × (r ≤ 46) ⌝ }
+{
+    let to = dst_cid.len as usize;
+    let from = src_cid.len as usize;
+    match version {
+        Version::Long(_) => 4 + 1 + to + 1 + from,
+        Version::Short => to,
+    }
+}
+
+// The bytes of a Length.
+fn length_size(has_length: bool) -> usize
+    ensures { λ r. ⌜ (r ≡ length (lengthBytes «has_length» placeholder)) × (r ≤ 2) ⌝ }
+{
+    if has_length { 2 } else { 0 }
+}
+
+// The bytes of a number.
+fn number_size(number: HeaderNumber) -> usize
+    requires { ⌜ numberKeeps (cutOf number) ≡ true ⌝ }
+    ensures { λ r. ⌜ (r ≡ length (numberField (cutOf number))) × (r ≤ 4) ⌝ }
+{
+    match number {
+        HeaderNumber::Cut(c) => c.0,
+        HeaderNumber::Nothing => 0,
+    }
+}
+
+// The bytes of a header without its token.
+fn fixed_size(
+    form: Form,
+    number: HeaderNumber,
+    dst_cid: ConnectionId,
+    src_cid: ConnectionId,
+) -> usize
+    requires { ⌜ keepRules (cutOf number) «dst_cid» «src_cid» ≡ true ⌝ }
+    ensures { λ r. ⌜ (r ≡ 1 + (length (namesBytes (versionOf (form .version)) «dst_cid» «src_cid») + (length (lengthBytes (form .«has_length») placeholder) + length (numberField (cutOf number))))) × (r ≤ 53) ⌝ }
+{
+    let version = form.version;
+    let names = names_size(version, dst_cid, src_cid);
+    1 + names + length_size(form.has_length) + number_size(number)
+}
+
+// The bytes of a header, or 14 past 65,527.
+fn size(
+    form: Form,
+    number: HeaderNumber,
+    dst_cid: ConnectionId,
+    src_cid: ConnectionId,
+    token: &[u8],
+) -> Sized
+    requires { ⌜ keepRules (cutOf number) «dst_cid» «src_cid» ≡ true ⌝ }
+    ensures { λ r. ⌜ sizedOf r ≡ inHeader (formBytes form number «dst_cid» «src_cid» (now (token .entry))) (length (formBytes form number «dst_cid» «src_cid» (now (token .entry)))) ⌝ }
+{
+    let fixed = fixed_size(form, number, dst_cid, src_cid);
+    if !form.has_token {
+        return Sized::Bytes(fixed);
+    }
+    if MAX_HEADER < token.len() {
+        return Sized::Refused(Refusal::Argument);
+    }
+    let Sized::Bytes(n) = VarInt(token.len() as u64).size() else {
+        return Sized::Refused(Refusal::Argument);
+    };
+    let all = fixed + n + token.len();
+    if MAX_HEADER < all {
+        return Sized::Refused(Refusal::Argument);
+    }
+    Sized::Bytes(all)
+}
+
+// Puts the version and both connection ids, or a short header's one.
+fn put_names(
+    version: Version,
+    dst_cid: ConnectionId,
+    src_cid: ConnectionId,
+    buf: &mut [u8],
+    at: usize,
+) -> usize
+    requires { ⌜ ((«dst_cid» .len ≤ 20) × («src_cid» .len ≤ 20)) × (at + length (namesBytes (versionOf version) «dst_cid» «src_cid») ≤ length (now buf)) ⌝ }
+    ensures { λ r. ⌜ Put (namesBytes (versionOf version) «dst_cid» «src_cid») (now (buf .entry)) at r (now (buf .exit)) ⌝ }
+{
+    let Version::Long(number) = version else {
+        return dst_cid.put_bytes(buf, at);
+    };
+    let to = coding::put_u32(buf, at, number);
+    let from = dst_cid.put_long(buf, to);
+    src_cid.put_long(buf, from)
+}
+
+// Puts a token behind its length.
+fn put_token(has_token: bool, token: &[u8], buf: &mut [u8], at: usize) -> usize
+    requires { ⌜ (length (tokenBytes «has_token» (now token)) ≤ 65527) × (at + length (tokenBytes «has_token» (now token)) ≤ length (now buf)) ⌝ }
+    ensures { λ r. ⌜ Put (tokenBytes «has_token» (now (token .entry))) (now (buf .entry)) at r (now (buf .exit)) ⌝ }
+{
+    if !has_token {
+        return at;
+    }
+    let next = coding::write_var(buf, at, token.len() as u64);
+    coding::put_slice(buf, next, token)
+}
+
+// Puts two bytes that keep the Length's place.
+fn put_placeholder(has_length: bool, buf: &mut [u8], at: usize) -> usize
+    ensures { λ r. ⌜ Put (lengthBytes «has_length» placeholder) (now (buf .entry)) at r (now (buf .exit)) ⌝ }
+{
+    if !has_length {
+        return at;
+    }
+    coding::put_u16(buf, at, 0)
+}
+
+fn put_number(number: HeaderNumber, buf: &mut [u8], at: usize) -> usize
+    requires { ⌜ numberKeeps (cutOf number) ≡ true ⌝ }
+    ensures { λ r. ⌜ Put (numberField (cutOf number)) (now (buf .entry)) at r (now (buf .exit)) ⌝ }
+{
+    let HeaderNumber::Cut(c) = number else {
+        return at;
+    };
+    number::put(c, buf, at)
+}
+
+// Puts a header that fits from byte 0 on.
+fn put_header(
+    form: Form,
+    number: HeaderNumber,
+    dst_cid: ConnectionId,
+    src_cid: ConnectionId,
+    token: &[u8],
+    buf: &mut [u8],
+) -> usize
+    requires { ⌜ (keepRules (cutOf number) «dst_cid» «src_cid» ≡ true) × ((length (formBytes form number «dst_cid» «src_cid» (now token)) ≤ 65527) × (length (formBytes form number «dst_cid» «src_cid» (now token)) ≤ length (now buf))) ⌝ }
+    ensures { λ r. ⌜ Put (formBytes form number «dst_cid» «src_cid» (now (token .entry))) (now (buf .entry)) 0 r (now (buf .exit)) ⌝ }
+{
+    let version = form.version;
+    let names = coding::put_u8(buf, 0, form.first);
+    let start = put_names(version, dst_cid, src_cid, buf, names);
+    let length = put_token(form.has_token, token, buf, start);
+    let at = put_placeholder(form.has_length, buf, length);
+    put_number(number, buf, at)
+}
+
+fn number_len(number: HeaderNumber) -> NumberLen
+    ensures { λ r. ⌜ numberLenOf r ≡ numberLenIn (cutOf number) ⌝ }
+{
+    match number {
+        HeaderNumber::Cut(c) => NumberLen::Bytes(c.0),
+        HeaderNumber::Nothing => NumberLen::Nothing,
+    }
+}
+
+// Writes a header from byte 0 of buf on. The token is an Initial's.
+pub fn encode(
+    header: Header,
+    dst_cid: ConnectionId,
+    src_cid: ConnectionId,
+    token: &[u8],
+    buf: &mut [u8],
+) -> Encoded
+    ensures { λ r. ⌜ Encodes (plainOf header) «dst_cid» «src_cid» (now (token .entry)) (now (buf .entry)) (encodedOf r) (now (buf .exit)) ⌝ }
+{
+    let number = header.number();
+    if !keep_rules(number, dst_cid, src_cid) {
+        return Encoded::Refused(Refusal::Argument);
+    }
+    let form = header::form_of(header);
+    let Sized::Bytes(len) = size(form, number, dst_cid, src_cid, token) else {
+        return Encoded::Refused(Refusal::Argument);
+    };
+    if buf.len() < len {
+        return Encoded::Refused(Refusal::Room);
+    }
+    let header_len = put_header(form, number, dst_cid, src_cid, token, buf);
+    Encoded::Partial(PartialEncode {
+        header_len,
+        number: number_len(number),
+        has_length: form.has_length,
+    })
+}
+
+// The bytes of a header's number.
+fn bytes_of(number: NumberLen) -> usize
+    ensures { λ r. ⌜ r ≡ numberBytes (numberLenOf number) ⌝ }
+{
+    match number {
+        NumberLen::Bytes(k) => k,
+        NumberLen::Nothing => 0,
+    }
+}
+
+// Stores the Length before a number of k bytes.
+fn length_into(header_len: usize, k: usize, packet: &mut [u8]) -> LengthSet
+    requires { ⌜ (k + 3 ≤ «header_len») × («header_len» ≤ length (now packet)) × (length (now packet) ≤ 65527) ⌝ }
+    ensures { λ r. ⌜ PutsLength «header_len» k (now (packet .entry)) (setOf r) (now (packet .exit)) ⌝ }
+{
+    let len = packet.len() - header_len + k;
+    if 0x4000 <= len {
+        return LengthSet::Refused(Refusal::Argument);
+    }
+    coding::put_u16(packet, header_len - k - 2, 0x4000 + len as u16);
+    LengthSet::Done
+}
+
+// The Length step: number and payload are counted, by what the header was written with.
+pub fn set_length(
+    header_len: usize,
+    number: NumberLen,
+    has_length: bool,
+    packet: &mut [u8],
+) -> LengthSet
+    ensures { λ r. ⌜ SetsLength «header_len» (numberLenOf number) «has_length» (now (packet .entry)) (setOf r) (now (packet .exit)) ⌝ }
+{
+    if !protect::header_tests(header_len, number, has_length, packet.len()) {
+        return LengthSet::Refused(Refusal::Argument);
+    }
+    if !has_length {
+        return LengthSet::Done;
+    }
+    length_into(header_len, bytes_of(number), packet)
+}
