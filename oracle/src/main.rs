@@ -9,7 +9,7 @@ usage: oracle ask                          answers to lines, a line each
        oracle ask-packed                   answers to packed records
        oracle pack                         lines to packed records
        oracle unpack                       packed records to lines
-       oracle random SEED FROM COUNT [OP]  random cases FROM .. FROM + COUNT, as lines
+       oracle random SEED FROM COUNT OP..  random cases FROM .. FROM + COUNT, as lines, of these operations or of all
        oracle exhaust                      every short case, as lines
 Lines and records are read on standard input; an empty line, or one that starts with #, is passed over.
 oracle/README.md has the operations. Exit status: 0; 1 for input that cannot be read, 2 for bad usage.";
@@ -24,8 +24,7 @@ fn main() -> ExitCode {
         ["ask-packed"] => records(|line| put_answer(&mut out, line)),
         ["pack"] => lines(|line| out.write_all(&record::pack(line).map_err(|Bad| bad(line))?)),
         ["unpack"] => records(|line| writeln!(out, "{line}")),
-        ["random", seed, from, count] => random(&mut out, [seed, from, count], None),
-        ["random", seed, from, count, op] => random(&mut out, [seed, from, count], Some(op)),
+        ["random", seed, from, count, ref ops @ ..] => random(&mut out, [seed, from, count], ops),
         ["exhaust"] => exhaust(&mut out),
         _ => {
             eprintln!("{USAGE}");
@@ -73,14 +72,14 @@ fn records(mut each: impl FnMut(&str) -> io::Result<()>) -> io::Result<()> {
     Ok(())
 }
 
-fn random(out: &mut impl Write, numbers: [&str; 3], op: Option<&str>) -> io::Result<()> {
+fn random(out: &mut impl Write, numbers: [&str; 3], ops: &[&str]) -> io::Result<()> {
     let mut parsed = [0u64; 3];
     for (word, number) in numbers.iter().zip(&mut parsed) {
         *number = word.parse().map_err(|_| bad(word))?;
     }
     let [seed, from, count] = parsed;
     for case in from..from.saturating_add(count) {
-        let line = cases::random(seed, case, op).ok_or_else(|| bad(op.unwrap_or_default()))?;
+        let line = cases::random(seed, case, ops).ok_or_else(|| bad(&ops.join(" ")))?;
         writeln!(out, "{line}")?;
     }
     Ok(())

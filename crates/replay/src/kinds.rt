@@ -22,7 +22,7 @@ fn cid(out: &mut [u8], p: usize, id: ConnectionId) -> usize {
     line::and_hex(out, q, &bytes)
 }
 
-pub fn cidnew(b: &[u8], out: &mut [u8], p: usize) -> usize {
+pub(crate) fn cidnew(b: &[u8], out: &mut [u8], p: usize) -> usize {
     let read = ConnectionId::new(b);
     let said = read.answer;
     let id = read.cid;
@@ -45,16 +45,16 @@ fn cid_read(read: CidRead, out: &mut [u8], p: usize) -> usize {
     }
 }
 
-pub fn cidbuf(at: u64, n: u64, b: &[u8], out: &mut [u8], p: usize) -> usize {
+pub(crate) fn cidbuf(at: u64, n: u64, b: &[u8], out: &mut [u8], p: usize) -> usize {
     cid_read(ConnectionId::from_buf(b, at as usize, n as usize), out, p)
 }
 
-pub fn ciddec(at: u64, b: &[u8], out: &mut [u8], p: usize) -> usize {
+pub(crate) fn ciddec(at: u64, b: &[u8], out: &mut [u8], p: usize) -> usize {
     cid_read(ConnectionId::decode_long(b, at as usize), out, p)
 }
 
 // The 20 bytes come by way of a CID of length 20.
-pub fn cidenc(
+pub(crate) fn cidenc(
     len: u64,
     bytes: &[u8],
     b: &[u8],
@@ -78,7 +78,7 @@ pub fn cidenc(
     line::wrote(out, p, said, part(work, Place { start: 0, len: n }))
 }
 
-pub fn ecnbits(x: u64, out: &mut [u8], p: usize) -> usize {
+pub(crate) fn ecnbits(x: u64, out: &mut [u8], p: usize) -> usize {
     if 255 < x {
         return line::bad(out, p);
     }
@@ -93,7 +93,7 @@ pub fn ecnbits(x: u64, out: &mut [u8], p: usize) -> usize {
     }
 }
 
-pub fn sidnew(side: u64, dir: u64, index: u64, out: &mut [u8], p: usize) -> usize {
+pub(crate) fn sidnew(side: u64, dir: u64, index: u64, out: &mut [u8], p: usize) -> usize {
     if 1 < side {
         return line::bad(out, p);
     }
@@ -112,7 +112,7 @@ pub fn sidnew(side: u64, dir: u64, index: u64, out: &mut [u8], p: usize) -> usiz
     }
 }
 
-pub fn sid(x: u64, out: &mut [u8], p: usize) -> usize {
+pub(crate) fn sid(x: u64, out: &mut [u8], p: usize) -> usize {
     let id = StreamId(x);
     let side = match id.initiator() {
         Side::Client => 0,
@@ -128,7 +128,7 @@ pub fn sid(x: u64, out: &mut [u8], p: usize) -> usize {
 }
 
 // The constants, in the order of frame_types!.
-pub fn ftypes(out: &mut [u8], p: usize) -> usize {
+pub(crate) fn ftypes(out: &mut [u8], p: usize) -> usize {
     let q = line::num(out, p, FrameType::PADDING.0);
     let types = [
         FrameType::PING.0,

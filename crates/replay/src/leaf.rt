@@ -21,28 +21,28 @@ enum Ended {
     Bad,
 }
 
-pub fn vread(at: u64, b: &[u8], out: &mut [u8], p: usize) -> usize {
+pub(crate) fn vread(at: u64, b: &[u8], out: &mut [u8], p: usize) -> usize {
     let VarRead::Var(v, next) = coding::get_var(b, at as usize) else {
         return line::no(out, p, Refusal::UnexpectedEnd);
     };
     line::ok_two(out, p, v.into_inner(), next as u64)
 }
 
-pub fn vfrom(x: u64, out: &mut [u8], p: usize) -> usize {
+pub(crate) fn vfrom(x: u64, out: &mut [u8], p: usize) -> usize {
     match VarInt::from_u64(x) {
         VarMade::Var(v) => line::ok(out, p, v.into_inner()),
         VarMade::Refused(why) => line::no(out, p, why),
     }
 }
 
-pub fn vsize(x: u64, out: &mut [u8], p: usize) -> usize {
+pub(crate) fn vsize(x: u64, out: &mut [u8], p: usize) -> usize {
     match VarInt(x).size() {
         Sized::Bytes(n) => line::ok(out, p, n as u64),
         Sized::Refused(why) => line::no(out, p, why),
     }
 }
 
-pub fn vwrite(x: u64, b: &[u8], work: &mut [u8], out: &mut [u8], p: usize) -> usize {
+pub(crate) fn vwrite(x: u64, b: &[u8], work: &mut [u8], out: &mut [u8], p: usize) -> usize {
     let n = lay(work, b);
     let said = VarInt(x).encode(&mut work[..n]);
     line::wrote(out, p, said, part(work, Place { start: 0, len: n }))
@@ -54,39 +54,48 @@ fn put_ended(next: usize, work: &[u8], n: usize, out: &mut [u8], p: usize) -> us
     line::and_hex(out, q, part(work, Place { start: 0, len: n }))
 }
 
-pub fn vput(at: u64, x: u64, b: &[u8], work: &mut [u8], out: &mut [u8], p: usize) -> usize {
+pub(crate) fn vput(at: u64, x: u64, b: &[u8], work: &mut [u8], out: &mut [u8], p: usize) -> usize {
     let n = lay(work, b);
     let next = coding::write_var(&mut work[..n], at as usize, x);
     put_ended(next, work, n, out, p)
 }
 
-pub fn get(width: u64, at: u64, b: &[u8], out: &mut [u8], p: usize) -> usize {
+// A number of any width as one of 8 bytes.
+fn from_u8(read: U8Read) -> U64Read {
+    match read {
+        U8Read::Num(x, next) => U64Read::Num(x as u64, next),
+        U8Read::End => U64Read::End,
+    }
+}
+
+fn from_u16(read: U16Read) -> U64Read {
+    match read {
+        U16Read::Num(x, next) => U64Read::Num(x as u64, next),
+        U16Read::End => U64Read::End,
+    }
+}
+
+fn from_u32(read: U32Read) -> U64Read {
+    match read {
+        U32Read::Num(x, next) => U64Read::Num(x as u64, next),
+        U32Read::End => U64Read::End,
+    }
+}
+
+fn got(read: U64Read, out: &mut [u8], p: usize) -> usize {
+    match read {
+        U64Read::Num(x, next) => line::ok_two(out, p, x, next as u64),
+        U64Read::End => line::no(out, p, Refusal::UnexpectedEnd),
+    }
+}
+
+pub(crate) fn get(width: u64, at: u64, b: &[u8], out: &mut [u8], p: usize) -> usize {
     let at = at as usize;
     match width {
-        1 => {
-            let U8Read::Num(x, next) = coding::get_u8(b, at) else {
-                return line::no(out, p, Refusal::UnexpectedEnd);
-            };
-            line::ok_two(out, p, x as u64, next as u64)
-        }
-        2 => {
-            let U16Read::Num(x, next) = coding::get_u16(b, at) else {
-                return line::no(out, p, Refusal::UnexpectedEnd);
-            };
-            line::ok_two(out, p, x as u64, next as u64)
-        }
-        4 => {
-            let U32Read::Num(x, next) = coding::get_u32(b, at) else {
-                return line::no(out, p, Refusal::UnexpectedEnd);
-            };
-            line::ok_two(out, p, x as u64, next as u64)
-        }
-        8 => {
-            let U64Read::Num(x, next) = coding::get_u64(b, at) else {
-                return line::no(out, p, Refusal::UnexpectedEnd);
-            };
-            line::ok_two(out, p, x, next as u64)
-        }
+        1 => got(from_u8(coding::get_u8(b, at)), out, p),
+        2 => got(from_u16(coding::get_u16(b, at)), out, p),
+        4 => got(from_u32(coding::get_u32(b, at)), out, p),
+        8 => got(coding::get_u64(b, at), out, p),
         _ => line::bad(out, p),
     }
 }
@@ -117,7 +126,7 @@ fn put_width(width: u64, buf: &mut [u8], at: usize, x: u64) -> Ended {
     }
 }
 
-pub fn put(
+pub(crate) fn put(
     width: u64,
     at: u64,
     x: u64,
@@ -133,13 +142,20 @@ pub fn put(
     put_ended(next, work, n, out, p)
 }
 
-pub fn puts(at: u64, bytes: &[u8], b: &[u8], work: &mut [u8], out: &mut [u8], p: usize) -> usize {
+pub(crate) fn puts(
+    at: u64,
+    bytes: &[u8],
+    b: &[u8],
+    work: &mut [u8],
+    out: &mut [u8],
+    p: usize,
+) -> usize {
     let n = lay(work, b);
     let next = put_slice(&mut work[..n], at as usize, bytes);
     put_ended(next, work, n, out, p)
 }
 
-pub fn take(at: u64, n: u64, b: &[u8], out: &mut [u8], p: usize) -> usize {
+pub(crate) fn take(at: u64, n: u64, b: &[u8], out: &mut [u8], p: usize) -> usize {
     let PlaceRead::At(place, next) = coding::take(b, at as usize, n) else {
         return line::no(out, p, Refusal::UnexpectedEnd);
     };
@@ -148,7 +164,7 @@ pub fn take(at: u64, n: u64, b: &[u8], out: &mut [u8], p: usize) -> usize {
     line::and_num(out, q, next as u64)
 }
 
-pub fn part_at(start: u64, len: u64, b: &[u8], out: &mut [u8], p: usize) -> usize {
+pub(crate) fn part_at(start: u64, len: u64, b: &[u8], out: &mut [u8], p: usize) -> usize {
     line::hex(
         out,
         p,

@@ -4,7 +4,7 @@ use coding::Wrote;
 use coding::put_slice;
 use coding::put_u8;
 
-pub fn num(out: &mut [u8], at: usize, n: u64) -> usize {
+pub(crate) fn num(out: &mut [u8], at: usize, n: u64) -> usize {
     let mut text = [0u8; 20];
     let k = io::decimal(n, &mut text);
     put_slice(out, at, &text[..k])
@@ -17,7 +17,7 @@ fn digit(b: u8) -> u8 {
 }
 
 // Bytes in hex, `-` for none.
-pub fn hex(out: &mut [u8], at: usize, bytes: &[u8]) -> usize {
+pub(crate) fn hex(out: &mut [u8], at: usize, bytes: &[u8]) -> usize {
     if bytes.len() == 0 {
         return put_u8(out, at, b'-');
     }
@@ -33,17 +33,17 @@ pub fn hex(out: &mut [u8], at: usize, bytes: &[u8]) -> usize {
 }
 
 // A number or bytes, after a space.
-pub fn and_num(out: &mut [u8], at: usize, n: u64) -> usize {
+pub(crate) fn and_num(out: &mut [u8], at: usize, n: u64) -> usize {
     let p = put_u8(out, at, b' ');
     num(out, p, n)
 }
 
-pub fn and_hex(out: &mut [u8], at: usize, bytes: &[u8]) -> usize {
+pub(crate) fn and_hex(out: &mut [u8], at: usize, bytes: &[u8]) -> usize {
     let p = put_u8(out, at, b' ');
     hex(out, p, bytes)
 }
 
-pub fn and_nums(out: &mut [u8], at: usize, ns: &[u64]) -> usize {
+pub(crate) fn and_nums(out: &mut [u8], at: usize, ns: &[u64]) -> usize {
     let mut p = at;
     let mut i = 0;
     while i < ns.len() {
@@ -53,25 +53,25 @@ pub fn and_nums(out: &mut [u8], at: usize, ns: &[u64]) -> usize {
     p
 }
 
-pub fn ok(out: &mut [u8], at: usize, n: u64) -> usize {
+pub(crate) fn ok(out: &mut [u8], at: usize, n: u64) -> usize {
     let p = put_slice(out, at, b"ok");
     and_num(out, p, n)
 }
 
-pub fn ok_two(out: &mut [u8], at: usize, a: u64, b: u64) -> usize {
+pub(crate) fn ok_two(out: &mut [u8], at: usize, a: u64, b: u64) -> usize {
     let p = ok(out, at, a);
     and_num(out, p, b)
 }
 
 // A refusal, with document 01's number.
-pub fn no(out: &mut [u8], at: usize, why: Refusal) -> usize {
+pub(crate) fn no(out: &mut [u8], at: usize, why: Refusal) -> usize {
     let n = why.number();
     let p = put_slice(out, at, b"no");
     and_num(out, p, n as u64)
 }
 
 // What a writer answers, and the lent buffer after it.
-pub fn wrote(out: &mut [u8], at: usize, said: Wrote, buf: &[u8]) -> usize {
+pub(crate) fn wrote(out: &mut [u8], at: usize, said: Wrote, buf: &[u8]) -> usize {
     match said {
         Wrote::Len(n) => {
             let p = ok(out, at, n as u64);
@@ -84,6 +84,6 @@ pub fn wrote(out: &mut [u8], at: usize, said: Wrote, buf: &[u8]) -> usize {
     }
 }
 
-pub fn bad(out: &mut [u8], at: usize) -> usize {
+pub(crate) fn bad(out: &mut [u8], at: usize) -> usize {
     put_slice(out, at, b"BAD RECORD")
 }

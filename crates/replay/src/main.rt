@@ -4,6 +4,7 @@
 mod kinds; // kinds.rt: the operations of `shared`
 mod leaf; // leaf.rt: the operations of `coding`
 mod line; // line.rt: an answer's text
+mod numbers; // numbers.rt: the operations of `number`
 mod record; // record.rt: a record's fields
 
 use coding::Place;
@@ -127,6 +128,13 @@ fn answer(
         16 => kinds::sidnew(a, b, c, out, at),
         17 => kinds::sid(a, out, at),
         18 => kinds::ftypes(out, at),
+        39 => numbers::pnnew(a, b, out, at),
+        40 => numbers::pnexp(a, b, c, out, at),
+        41 => numbers::pndec(a, x, out, at),
+        42 => numbers::pnenc(a, b, x, work, out, at),
+        43 => numbers::pnlen(a, out, at),
+        44 => numbers::pntag(a, b, out, at),
+        45 => numbers::ends(x, out, at),
         _ => line::bad(out, at),
     }
 }

@@ -22,7 +22,7 @@ pub enum FieldsRead {
 }
 
 // Bytes after their length.
-pub fn bytes(rec: &[u8], at: usize) -> PlaceRead {
+pub(crate) fn bytes(rec: &[u8], at: usize) -> PlaceRead {
     let U8Read::Num(high, p) = coding::get_u8(rec, at) else {
         return PlaceRead::End;
     };
@@ -33,7 +33,7 @@ pub fn bytes(rec: &[u8], at: usize) -> PlaceRead {
 }
 
 // All fields, and nothing after them.
-pub fn read_fields(rec: &[u8]) -> FieldsRead {
+pub(crate) fn read_fields(rec: &[u8]) -> FieldsRead {
     let U64Read::Num(a, p) = coding::get_u64(rec, 0) else {
         return FieldsRead::Bad;
     };
@@ -56,7 +56,7 @@ pub fn read_fields(rec: &[u8]) -> FieldsRead {
 }
 
 // Lays a part's bytes at the start of work, to be lent to a writer, and answers how many they are.
-pub fn lay(work: &mut [u8], part: &[u8]) -> usize
+pub(crate) fn lay(work: &mut [u8], part: &[u8]) -> usize
     ensures { λ r. ⌜ Counts r (now (work .exit)) ⌝ }
 {
     let n = put_slice(work, 0, part);

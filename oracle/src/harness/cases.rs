@@ -1,5 +1,6 @@
 //! Cases: lines around every boundary at random, and all of the short ones.
 mod exhaust;
+mod number;
 mod random;
 
 pub use exhaust::exhaust;

@@ -7,6 +7,10 @@ pub const PLACE_PAST: &str = "place-past-the-slice";
 pub const CID_OVER_20: &str = "cid-over-20";
 pub const CID_CUT: &str = "cid-cut";
 pub const STREAM_INDEX_60: &str = "stream-index-60";
+pub const U24_FOURTH_BYTE: &str = "u24-fourth-byte";
+pub const NUMBER_TOO_FAR: &str = "number-too-far";
+pub const NUMBER_62: &str = "number-62";
+pub const CUT_RULE: &str = "cut-rule";
 
 /// What document 01 answers, and the difference's name.
 pub struct Decided {

@@ -22,7 +22,7 @@ const fn op(code: u8, name: &'static str, fields: &'static str, run: Run) -> Op 
     Op { code, name, fields, run }
 }
 
-pub const OPS: [Op; 35] = [
+pub const OPS: [Op; 39] = [
     // varint.rs, coding.rs
     op(1, "vread", "nb", leaf::vread),
     op(2, "vfrom", "n", leaf::vfrom),
@@ -52,8 +52,12 @@ pub const OPS: [Op; 35] = [
     op(37, "hfin", "nnnbbb", packet::probe::hfin),
     op(38, "whole", "Kbbb", packet::probe::whole),
     op(39, "pnnew", "nn", packet::probe::pnnew),
-    op(40, "pnexp", "nb", packet::probe::pnexp),
+    op(40, "pnexp", "nnn", packet::probe::pnexp),
     op(41, "pndec", "nb", packet::probe::pndec),
+    op(42, "pnenc", "nnb", packet::probe::pnenc),
+    op(43, "pnlen", "n", packet::probe::pnlen),
+    op(44, "pntag", "nn", packet::probe::pntag),
+    op(45, "ends", "b", packet::probe::ends),
     // frame.rs
     op(64, "frames", "b", frame::probe::frames),
     op(65, "framesraw", "b", frame::probe::framesraw),

@@ -1,8 +1,10 @@
 //! Child of the given packet.rs: sees its private items.
+mod ends;
 mod number;
 mod reading;
 mod writing;
 
-pub(crate) use number::{pndec, pnexp, pnnew};
+pub(crate) use ends::ends;
+pub(crate) use number::{pndec, pnenc, pnexp, pnlen, pnnew, pntag};
 pub(crate) use reading::{finish, split, unmask, walk};
 pub(crate) use writing::{henc, hfin, whole};

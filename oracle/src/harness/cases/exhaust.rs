@@ -1,5 +1,6 @@
 //! All short inputs of each operation.
 use super::super::words::hex;
+use super::number;
 
 /// Hands out every line.
 pub fn exhaust(emit: &mut dyn FnMut(String)) {
@@ -9,15 +10,16 @@ pub fn exhaust(emit: &mut dyn FnMut(String)) {
     cids(emit);
     small_kinds(emit);
     longest(emit);
+    number::exhaust(emit);
 }
 
 /// Bytes that tell their place.
-fn bytes(n: u64) -> String {
+pub(super) fn bytes(n: u64) -> String {
     hex(&(0..n).map(|i| 0xa0 + i as u8).collect::<Vec<u8>>())
 }
 
 /// Every number within three of a power of two.
-fn edges() -> Vec<u64> {
+pub(super) fn edges() -> Vec<u64> {
     let mut all: Vec<u64> =
         (0..64).flat_map(|e| (0..7).map(move |d| (1u64 << e).wrapping_add(d).wrapping_sub(3))).collect();
     all.extend((0..3).map(|d| u64::MAX - d));

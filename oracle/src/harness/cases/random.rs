@@ -1,12 +1,13 @@
 //! Random cases of each operation, by weight.
 use super::super::rng::{END, Rng};
 use super::super::words::hex;
+use super::number;
 
 /// A case of one operation.
 type Make = fn(&mut Rng) -> String;
 
 /// Operation, how often it comes up, its cases.
-const MADE: [(&str, u64, Make); 18] = [
+const MADE: [(&str, u64, Make); 25] = [
     ("vread", 12, vread),
     ("vfrom", 3, |r| around_62(r).to_string()),
     ("vsize", 5, |r| around_62(r).to_string()),
@@ -25,32 +26,35 @@ const MADE: [(&str, u64, Make); 18] = [
     ("sidnew", 4, sidnew),
     ("sid", 2, |r| r.any().to_string()),
     ("ftypes", 1, |_| String::new()),
+    ("pnnew", 12, number::pnnew),
+    ("pnexp", 14, number::pnexp),
+    ("pndec", 4, number::pndec),
+    ("pnenc", 7, number::pnenc),
+    ("pnlen", 1, |r| r.below(256).to_string()),
+    ("pntag", 4, number::pntag),
+    ("ends", 3, number::ends),
 ];
 
-/// The case of this number, of any operation or of one; none where there is no such operation.
-pub fn random(seed: u64, case: u64, op: Option<&str>) -> Option<String> {
+/// The case of this number, of the operations that are named, by weight, or of any; none where one is no operation.
+pub fn random(seed: u64, case: u64, ops: &[&str]) -> Option<String> {
     let mut r = Rng::new(seed, case);
-    let (name, _, make) = match op {
-        Some(op) => MADE.iter().find(|made| made.0 == op)?,
-        None => weighted(&mut r),
-    };
-    let fields = make(&mut r);
-    Some(format!("{name} {fields}").trim_end().into())
-}
-
-fn weighted(r: &mut Rng) -> &'static (&'static str, u64, Make) {
-    let mut left = r.below(MADE.iter().map(|made| made.1).sum());
-    for made in &MADE {
-        match left.checked_sub(made.1) {
+    if !ops.iter().all(|op| MADE.iter().any(|made| made.0 == *op)) {
+        return None;
+    }
+    let asked = |name| ops.is_empty() || ops.contains(&name);
+    let weights = MADE.iter().filter(|made| asked(made.0)).map(|made| made.1);
+    let mut left = r.below(weights.sum());
+    for (name, weight, make) in MADE.iter().filter(|made| asked(made.0)) {
+        match left.checked_sub(*weight) {
             Some(less) => left = less,
-            None => return made,
+            None => return Some(format!("{name} {}", make(&mut r)).trim_end().into()),
         }
     }
-    unreachable!()
+    None
 }
 
 /// An integer, or one time in four a number past them all.
-fn around_62(r: &mut Rng) -> u64 {
+pub(super) fn around_62(r: &mut Rng) -> u64 {
     if !r.one_in(4) {
         return r.integer();
     }

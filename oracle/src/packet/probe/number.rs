@@ -1,7 +1,9 @@
 //! PacketNumber.
 use super::super::*;
+use crate::harness::differences::{CUT_RULE, Decided, NUMBER_62, NUMBER_TOO_FAR, U24_FOURTH_BYTE, decided, settle};
+use crate::harness::leaf::{no_room, written};
+use crate::harness::rng::END;
 use crate::harness::words::{Args, Bad, hex};
-use std::panic::{catch_unwind, resume_unwind};
 
 /// The value of a cut number, U24's fourth byte with it.
 pub(super) fn raw(n: PacketNumber) -> u32 {
@@ -20,40 +22,112 @@ pub(super) fn cut(bytes: &[u8]) -> Result<PacketNumber, Bad> {
     PacketNumber::decode(bytes.len(), &mut &bytes[..]).map_err(|_| Bad)
 }
 
-/// pnnew NUMBER LARGESTACKED -> ok K BYTES | no 16: PacketNumber::new, then encode
-pub(crate) fn pnnew(a: &mut Args, out: &mut String) -> Result<(), Bad> {
-    const TOO_FAR: &str = "packet number too large to encode";
-    let (n, acked) = (a.num()?, a.num()?);
-    // a panic with this one text is how the source refuses; any other is passed on
-    let p = match catch_unwind(|| PacketNumber::new(n, acked)) {
-        Ok(p) => p,
-        Err(e) if e.downcast_ref::<&str>() == Some(&TOO_FAR) => {
-            out.push_str("no 16");
-            return Ok(());
-        }
-        Err(e) => resume_unwind(e),
-    };
+/// What a cut number writes: its length, and the bytes as a number.
+pub(super) fn sent(p: PacketNumber) -> (usize, u32) {
     let mut w = Vec::new();
     p.encode(&mut w);
     assert_eq!(w.len(), p.len());
-    assert_eq!(PacketNumber::decode_len(p.tag()), p.len());
-    *out += &format!("ok {} {}", p.len(), hex(&w));
-    Ok(())
+    (w.len(), w.iter().fold(0, |x, &b| x << 8 | u32::from(b)))
 }
 
-/// pnexp EXPECTED BYTES -> ok NUMBER: PacketNumber::decode, then expand
-pub(crate) fn pnexp(a: &mut Args, out: &mut String) -> Result<(), Bad> {
-    let expected = a.num()?;
-    *out += &format!("ok {}", cut(&a.bytes()?)?.expand(expected));
-    Ok(())
+/// Whether document 01 has a cut number of this length and value.
+pub(super) fn is_cut(k: u64, value: u32) -> bool {
+    (1..=4).contains(&k) && u64::from(value) < 1 << (8 * k)
 }
 
-/// pndec LEN BYTES -> ok VALUE | no 9: PacketNumber::decode
-pub(crate) fn pndec(a: &mut Args, out: &mut String) -> Result<(), Bad> {
-    let (len, data) = (a.num()? as usize, a.bytes()?);
-    match PacketNumber::decode(len, &mut &data[..]) {
-        Ok(n) => *out += &format!("ok {}", raw(n)),
-        Err(_) => out.push_str("no 9"),
+/// The Rust's cut number of this length and value. Panics where there is none: another length reaches decode's
+/// `unreachable!`, and a value of too many bytes does not go into U8 and U16.
+pub(super) fn held(k: u64, value: u32) -> PacketNumber {
+    match k {
+        1 => PacketNumber::U8(value.try_into().unwrap()),
+        2 => PacketNumber::U16(value.try_into().unwrap()),
+        3 => PacketNumber::U24(value),
+        4 => PacketNumber::U32(value),
+        _ => PacketNumber::decode(k as usize, &mut &[0; 4][..]).unwrap(),
     }
+}
+
+/// Document 01's answer to a cut number outside its rule.
+fn outside(k: u64, value: u32, answer: String) -> Option<Decided> {
+    match k {
+        _ if is_cut(k, value) => None,
+        3 => decided(U24_FOURTH_BYTE, answer),
+        _ => decided(CUT_RULE, answer),
+    }
+}
+
+fn cut_words(a: &mut Args) -> Result<(u64, u32), Bad> {
+    Ok((a.num()?, a.below(1 << 32)? as u32))
+}
+
+/// pnnew N ACKED
+pub(crate) fn pnnew(a: &mut Args, out: &mut String) -> Result<(), Bad> {
+    let (n, acked) = (a.num()?, a.num()?);
+    let paper = if n >= END {
+        decided(NUMBER_62, "no 14".into())
+    } else if n < acked {
+        decided(NUMBER_TOO_FAR, "no 14".into())
+    } else if n - acked >= 1 << 31 {
+        decided(NUMBER_TOO_FAR, "no 16".into())
+    } else {
+        None
+    };
+    settle(out, paper, || new(n, acked));
+    Ok(())
+}
+
+/// What the Rust's new number writes, marked where it holds more.
+fn new(n: u64, acked: u64) -> String {
+    let p = PacketNumber::new(n, acked);
+    let (len, value) = sent(p);
+    let mark = if raw(p) == value { String::new() } else { format!(" # {U24_FOURTH_BYTE}") };
+    format!("ok {len} {value}{mark}")
+}
+
+/// pnexp K VALUE EXPECTED
+pub(crate) fn pnexp(a: &mut Args, out: &mut String) -> Result<(), Bad> {
+    let ((k, value), expected) = (cut_words(a)?, a.num()?);
+    let paper = if is_cut(k, value) && expected > END {
+        decided(NUMBER_62, "no 14".into())
+    } else {
+        outside(k, value, "no 14".into())
+    };
+    settle(out, paper, || format!("ok {}", held(k, value).expand(expected)));
+    Ok(())
+}
+
+/// pndec K B4
+pub(crate) fn pndec(a: &mut Args, out: &mut String) -> Result<(), Bad> {
+    let (k, bytes) = (a.num()?, a.array::<4>()?);
+    let paper = if (1..=4).contains(&k) { None } else { decided(CUT_RULE, "no 14".into()) };
+    settle(out, paper, || {
+        let p = PacketNumber::decode(k as usize, &mut &bytes[..]).unwrap();
+        format!("ok {} {}", p.len(), raw(p))
+    });
+    Ok(())
+}
+
+/// pnenc K VALUE B
+pub(crate) fn pnenc(a: &mut Args, out: &mut String) -> Result<(), Bad> {
+    let ((k, value), b) = (cut_words(a)?, a.bytes()?);
+    let paper = if is_cut(k, value) {
+        no_room(&b, |mut w| held(k, value).encode(&mut w))
+    } else {
+        outside(k, value, format!("no 14 {}", hex(&b)))
+    };
+    settle(out, paper, || written(&b, |mut w| held(k, value).encode(&mut w)));
+    Ok(())
+}
+
+/// pnlen TAG
+pub(crate) fn pnlen(a: &mut Args, out: &mut String) -> Result<(), Bad> {
+    *out += &PacketNumber::decode_len(a.below(256)? as u8).to_string();
+    Ok(())
+}
+
+/// pntag K VALUE
+pub(crate) fn pntag(a: &mut Args, out: &mut String) -> Result<(), Bad> {
+    let (k, value) = cut_words(a)?;
+    settle(out, outside(k, value, "no 14".into()), || format!("ok {}", held(k, value).tag()));
     Ok(())
 }

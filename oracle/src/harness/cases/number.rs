@@ -1,0 +1,265 @@
+//! Cases of packet numbers and of the two number ends.
+use super::super::rng::{END, Rng};
+use super::super::words::hex;
+use super::exhaust::{bytes, edges};
+use super::random::around_62;
+
+/// The distances from which on a number takes more bytes, or is too far.
+const DISTANCES: [u64; 6] = [0, 1, 1 << 7, 1 << 15, 1 << 23, 1 << 31];
+
+/// A distance: within one of where the length changes, or of any magnitude.
+fn distance(r: &mut Rng) -> u64 {
+    if r.one_in(4) {
+        let shift = 30 + r.below(34);
+        return r.bits() >> shift;
+    }
+    (r.pick(&DISTANCES) + r.below(3)).saturating_sub(1)
+}
+
+/// A number as it is sent: of any magnitude, or at the end of all numbers.
+fn full(r: &mut Rng) -> u64 {
+    if r.one_in(4) { END - 1 - r.below(300) } else { r.integer() }
+}
+
+/// How many values k bytes have; for a k that no cut number has, as many as for 1 or 4.
+fn window(k: u64) -> u64 {
+    1 << (8 * k.clamp(1, 4))
+}
+
+fn cut_length(r: &mut Rng) -> u64 {
+    if r.one_in(16) { r.pick(&[0, 5, 6, 8, 255, 256, 1 << 32, u64::MAX]) } else { 1 + r.below(4) }
+}
+
+/// A length and a value: at the ends of the window or its half, anywhere in it, at times past it.
+fn cut(r: &mut Rng) -> (u64, u64) {
+    let k = cut_length(r);
+    let w = window(k);
+    let value = match r.below(8) {
+        0 => r.bits() >> 32,
+        1 | 2 => (r.pick(&[0, w / 2, w]) + r.below(3)).saturating_sub(1),
+        _ => r.below(w),
+    };
+    (k, value.min(u64::from(u32::MAX)))
+}
+
+pub fn pnnew(r: &mut Rng) -> String {
+    let d = distance(r);
+    let (n, acked) = match r.below(10) {
+        0 => (around_62(r), around_62(r)),
+        1 => {
+            let n = END + r.below(4) - 2;
+            (n, n.saturating_sub(d))
+        }
+        2 => {
+            let acked = full(r);
+            (acked.saturating_sub(d), acked)
+        }
+        _ => {
+            let acked = full(r);
+            (acked.saturating_add(d), acked)
+        }
+    };
+    format!("{n} {acked}")
+}
+
+pub fn pnexp(r: &mut Rng) -> String {
+    let (k, value) = cut(r);
+    let w = window(k);
+    let near = if r.one_in(3) { r.below(4 * w) } else { full(r) };
+    let candidate = near - near % w + value;
+    let expected = match r.below(8) {
+        0 => around_62(r),
+        1 => END + 2 - r.below(5),
+        2 => near,
+        3..6 => (candidate + w / 2 + r.below(3)).saturating_sub(1),
+        _ => (candidate + r.below(3)).saturating_sub(w / 2 + 1),
+    };
+    format!("{k} {value} {expected}")
+}
+
+pub fn pndec(r: &mut Rng) -> String {
+    format!("{} {}", cut_length(r), hex(&r.bytes(4)))
+}
+
+pub fn pnenc(r: &mut Rng) -> String {
+    let (k, value) = cut(r);
+    let room = match r.below(3) {
+        0 => r.below(k.clamp(1, 4)) as usize,
+        _ => k.clamp(1, 4) as usize + r.length(4),
+    };
+    format!("{k} {value} {}", hex(&r.bytes(room)))
+}
+
+pub fn pntag(r: &mut Rng) -> String {
+    let (k, value) = cut(r);
+    format!("{k} {value}")
+}
+
+/// The steps of a run, as their numbers.
+const SEND: u8 = 0;
+const ACKNOWLEDGE: u8 = 1;
+const READ: u8 = 2;
+const ACCEPT: u8 = 3;
+const SET_NEXT: u8 = 4;
+const SET_ACKED: u8 = 5;
+const SET_LARGEST: u8 = 6;
+
+type Step = (u8, u64, u32);
+
+fn packed(steps: &[Step]) -> String {
+    let mut b = Vec::new();
+    for (step, n, v) in steps {
+        b.push(*step);
+        b.extend(n.to_be_bytes());
+        b.extend(v.to_be_bytes());
+    }
+    hex(&b)
+}
+
+/// A run: about as many steps of each call, with numbers around those that the calls before can have used; in every other
+/// run the record is set as well, far on, at the end of all numbers, or as no calls can have made it.
+pub fn ends(r: &mut Rng) -> String {
+    let sets = r.one_in(2);
+    let (mut next, mut largest) = (0u64, 0u64); // roughly where the run stands
+    let mut steps = Vec::new();
+    for _ in 0..1 + r.below(40) {
+        let step = match r.below(if sets { 12 } else { 9 }) {
+            0..3 => {
+                next = next.saturating_add(1);
+                (SEND, 0, 0)
+            }
+            3 | 4 => (ACKNOWLEDGE, near(r, next), 0),
+            5 | 6 => read(r, largest),
+            7 | 8 => {
+                let about = r.pick(&[next, largest]);
+                let n = near(r, about);
+                largest = largest.max(n);
+                (ACCEPT, n, 0)
+            }
+            9 => {
+                next = if r.one_in(2) { near(r, next).saturating_add(distance(r)) } else { set_to(r) };
+                (SET_NEXT, next, 0)
+            }
+            10 => (
+                SET_ACKED,
+                if r.one_in(2) { near(r, next) } else { next.saturating_sub(distance(r)) },
+                r.below(4) as u32,
+            ),
+            _ => {
+                largest = set_to(r);
+                (SET_LARGEST, largest, r.below(4) as u32)
+            }
+        };
+        steps.push(step);
+    }
+    packed(&steps)
+}
+
+/// A number of a run: a little below n, n, just past it; rarely any.
+fn near(r: &mut Rng, n: u64) -> u64 {
+    match r.below(8) {
+        0 => n,
+        1 => n.saturating_add(1 + r.below(2)),
+        2 if r.one_in(4) => around_62(r),
+        _ => n.saturating_sub(1 + r.below(6)),
+    }
+}
+
+fn set_to(r: &mut Rng) -> u64 {
+    match r.below(4) {
+        0 => END + r.below(4) - 2,
+        1 => around_62(r),
+        _ => full(r),
+    }
+}
+
+/// A reading: the last bytes of a number about half a window from the largest, or any cut number.
+fn read(r: &mut Rng, largest: u64) -> Step {
+    if r.one_in(4) {
+        let (k, value) = cut(r);
+        return (READ, k, value as u32);
+    }
+    let k = 1 + r.below(4);
+    let w = window(k);
+    let n = match r.below(3) {
+        0 => largest.saturating_add(w / 2),
+        1 => largest.saturating_sub(w / 2),
+        _ => largest,
+    };
+    (READ, k, (near(r, n) % w) as u32)
+}
+
+/// Every short case, and those around every boundary.
+pub fn exhaust(emit: &mut dyn FnMut(String)) {
+    (0..=0xff).for_each(|tag| emit(format!("pnlen {tag}")));
+    cutting(emit);
+    reading(emit);
+    for k in 0..6 {
+        for value in values(k) {
+            emit(format!("pntag {k} {value}"));
+            (0..6).for_each(|n| emit(format!("pnenc {k} {value} {}", bytes(n))));
+            emit(format!("pndec {k} {value:08x}"));
+        }
+    }
+    runs(emit);
+}
+
+fn cutting(emit: &mut dyn FnMut(String)) {
+    for n in 0..300 {
+        (0..300).for_each(|acked| emit(format!("pnnew {n} {acked}")));
+    }
+    for acked in edges() {
+        for d in DISTANCES.iter().flat_map(|d| [d.saturating_sub(1), *d, d + 1]) {
+            emit(format!("pnnew {} {acked}", acked.saturating_add(d)));
+            emit(format!("pnnew {} {acked}", acked.saturating_sub(d)));
+        }
+    }
+}
+
+/// The values around the ends of each window, within it and past it.
+fn values(k: u64) -> Vec<u64> {
+    edges().into_iter().filter(|&x| x <= u64::from(u32::MAX).min(8 * window(k))).collect()
+}
+
+fn reading(emit: &mut dyn FnMut(String)) {
+    for expected in 0..600 {
+        (0..=0x100).for_each(|value| emit(format!("pnexp 1 {value} {expected}")));
+    }
+    for k in 0..6 {
+        for value in values(k) {
+            for expected in edges().into_iter().chain(0..40) {
+                emit(format!("pnexp {k} {value} {expected}"));
+            }
+        }
+    }
+}
+
+/// Every run of up to four of these steps.
+fn runs(emit: &mut dyn FnMut(String)) {
+    const STEPS: [Step; 18] = [
+        (SEND, 0, 0),
+        (ACKNOWLEDGE, 0, 0),
+        (ACKNOWLEDGE, 1, 0),
+        (READ, 1, 0),
+        (READ, 1, 255),
+        (READ, 5, 0),
+        (ACCEPT, 0, 0),
+        (ACCEPT, 300, 0),
+        (ACCEPT, END - 1, 0),
+        (ACCEPT, END, 0),
+        (SET_NEXT, 1 << 7, 0),
+        (SET_NEXT, 1 << 15, 0),
+        (SET_NEXT, 1 << 31, 0),
+        (SET_NEXT, END - 1, 0),
+        (SET_NEXT, END + 1, 0),
+        (SET_ACKED, 0, 0),
+        (SET_ACKED, 1, 1),
+        (SET_LARGEST, END, 1),
+    ];
+    for len in 1..=4 {
+        for run in 0..STEPS.len().pow(len) {
+            let steps: Vec<Step> = (0..len).map(|i| STEPS[run / STEPS.len().pow(i) % STEPS.len()]).collect();
+            emit(format!("ends {}", packed(&steps)));
+        }
+    }
+}
