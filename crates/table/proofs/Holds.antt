@@ -10,10 +10,14 @@ use Rattle.number.specs.Cutting.{windowOf, isCut, bytesFor, cutTo, cutMade}
 use Rattle.number.specs.Expanding.{nearestTo, expanded}
 use Rattle.packet.specs.TypeBits.{typeOf}
 use Rattle.packet.specs.Header.{refuse, outside, unfixed, listed, headed, initialAt, lengthAt, tailAt, bodyAt, longAt, shortAt, firstAt, headerBy}
-use Rattle.table.specs.Table.{found, written, made, grown, answer, table, Holds, none, _also_}
+use Rattle.ack.specs.Scan.{rounds, scanAt}
+use Rattle.ack.specs.Step.{ackStep, goOn, stepping}
+use Rattle.frame.specs.Format.{thenRead, upTo, blocksAt, fieldAt, fieldsAt}
+use Rattle.frame.specs.Table as frame
+use Rattle.table.specs.Table.{found, written, made, grown, numberIn, placeIn, ranged, answer, table, Holds, all, _also_}
 
 -- the statement
 pub holds-table : Holds table
-unfolding table answer found written made grown if_then_else_ andThen be bytesBE partOf fixedAt takeAt varLen varAt varTag varSize varBytes in62 varOut cidOf cidOn longCidAt windowOf isCut bytesFor cutTo cutMade nearestTo expanded typeOf refuse outside unfixed listed headed initialAt lengthAt tailAt bodyAt longAt shortAt firstAt headerBy
+unfolding table answer found written made grown if_then_else_ andThen be bytesBE partOf fixedAt takeAt varLen varAt varTag varSize varBytes in62 varOut cidOf cidOn longCidAt windowOf isCut bytesFor cutTo cutMade nearestTo expanded typeOf refuse outside unfixed listed headed initialAt lengthAt tailAt bodyAt longAt shortAt firstAt headerBy numberIn placeIn ranged rounds scanAt ackStep goOn stepping thenRead upTo blocksAt fieldAt fieldsAt frame.table frame.bodyAt frame.outcome frame.frameAt
 holds-table =
-    refl also refl also refl also refl also refl also refl also refl also refl also refl also refl also refl also refl also refl also refl also none
+    refl also refl also refl also refl also refl also refl also refl also refl also refl also refl also refl also refl also refl also refl also refl also refl also all

@@ -6,15 +6,22 @@
 use Prim.Native.Nat.{ℕ, _+_, _^_}
 use mathlib.Core.List.{List, [], _∷_}
 use mathlib.Core.Bool.{Bool, true, false}
+use mathlib.Core.Option.{Option, some}
 use mathlib.Core.Path.{_≡_}
+use lib.ListN.{length, getD}
 use Rattle.coding.specs.Words.{Got, cut, got, Answer, no, ok}
+use Rattle.coding.specs.Places.{partOf}
 use Rattle.coding.specs.Varint.{varAt, varOut}
+use Rattle.coding.specs.declared.Place.{Place}
 use Rattle.shared.specs.declared.kinds.CutNumber.{CutNumber}
 use Rattle.number.specs.Cutting as number
 use Rattle.number.specs.Cutting.{cutMade}
 use Rattle.number.specs.Expanding.{expanded}
 use Rattle.shared.specs.Cid.{cidOf}
 use Rattle.packet.specs.Header.{Outcome, negotiate, refuse, headed, headerAt}
+use Rattle.ack.specs.Step.{Step, range, end, stepping}
+use Rattle.frame.specs.Format.{Value, num, place, none, said}
+use Rattle.frame.specs.Table as frame
 
 pub data Question : Type 0 where
   -- the integer at the start of these bytes
@@ -27,6 +34,8 @@ pub data Question : Type 0 where
   expandNumber : ℕ → ℕ → ℕ → Question
   -- the header at the start of a datagram: local CID length 0, version 1, and whether grease is on
   readHeader : List ℕ → Bool → Question
+  -- the ranges of the ACK frame at the start of a payload
+  readAck : List ℕ → Question
 
 pub data Reply : Type 0 where
   -- a refusal, by its number
@@ -41,6 +50,9 @@ pub data Reply : Type 0 where
   full : ℕ → Reply
   -- a header with all that stands beside it, or its refusal with all that it carries
   header : Outcome → Reply
+  -- what the steps over a frame's ranges say, or the frame's refusal, with its start and its type once read
+  ranges : List Step → Reply
+  frameRefused : ℕ → ℕ → Option ℕ → Reply
 
 -- what a read replies, a writer, a cut, and an expansion
 unfoldable pub found : Got ℕ → Reply
@@ -59,16 +71,38 @@ unfoldable pub grown : Answer ℕ → Reply
 grown (no k) = refused k
 grown (ok n) = full n
 
+-- an ACK's largest number is its first value, and its blocks are the third
+unfoldable pub numberIn : Value → ℕ
+numberIn (num n) = n
+numberIn (place p) = 0
+numberIn none = 0
+
+unfoldable pub placeIn : Value → Place
+placeIn (num n) = record { start = 0; len = 0 }
+placeIn (place p) = p
+placeIn none = record { start = 0; len = 0 }
+
+unfoldable pub ranged : List ℕ → frame.Outcome → Reply
+ranged s (frame.taken t (said name values) next) =
+    ranges (stepping (length s) (partOf s (placeIn (getD values 2 none))) 0 (numberIn (getD values 0 none)))
+ranged s (frame.refused k start t) = frameRefused k start t
+
 unfoldable pub answer : Question → Reply
 answer (readVar s) = found (varAt s 0)
 answer (writeVar x) = written (varOut x)
 answer (cutNumber n acked) = made (cutMade n acked)
 answer (expandNumber k v expected) = grown (expanded (number.cut k v) expected)
 answer (readHeader s grease) = header (headerAt s 0 (1 ∷ []) grease)
+answer (readAck s) = ranged s (frame.frameAt frame.table s 0)
 
 -- a refusal that carries both connection ids and the version
 abbrev pub carrying : ℕ → List ℕ → List ℕ → ℕ → Outcome
 carrying k to from version = record { said = no k; dst = cidOf to; src = cidOf from; version = version; end = 0 }
+
+-- a range, from its smallest number to its largest
+infix 80 _to_
+abbrev pub _to_ : ℕ → ℕ → Step
+a to b = range (record { smallest = a; largest = b })
 
 pub record Row : Type 0 where
   pub asked : Question
@@ -102,10 +136,13 @@ table =
     -- expected 128, byte 00 gives 256; expected 127 gives 0
     expandNumber 1 0x00 128 gives full 256 ∷
     expandNumber 1 0x00 127 gives full 0 ∷
+    -- ACK 02 05 00 01 01 02 00 gives 4 to 5 and 0; with gap 03 it is 12
+    readAck (0x02 ∷ 0x05 ∷ 0x00 ∷ 0x01 ∷ 0x01 ∷ 0x02 ∷ 0x00 ∷ []) gives ranges (4 to 5 ∷ 0 to 0 ∷ end ∷ []) ∷
+    readAck (0x02 ∷ 0x05 ∷ 0x00 ∷ 0x01 ∷ 0x01 ∷ 0x03 ∷ 0x00 ∷ []) gives frameRefused 12 0 (some 2) ∷
     []
 
 -- every row's question is answered as the row says
 infixr 60 _also_
 pub data Holds : List Row → Type 0 where
-  none : Holds []
+  all : Holds []
   _also_ : {row : Row} {rows : List Row} → answer (row .asked) ≡ row .told → Holds rows → Holds (row ∷ rows)
