@@ -1,5 +1,5 @@
 -- Every row of the table holds, by computing. Assumes nothing.
-use mathlib.Core.Path.{refl}
+use mathlib.Core.Path.{_≡_, refl}
 use Rattle.coding.specs.Words.{if_then_else_, andThen}
 use Rattle.coding.specs.Bytes.{be, bytesBE}
 use Rattle.coding.specs.Places.{partOf}
@@ -14,10 +14,9 @@ use Rattle.ack.specs.Scan.{rounds, scanAt}
 use Rattle.ack.specs.Step.{ackStep, goOn, stepping}
 use Rattle.frame.specs.Format.{thenRead, upTo, blocksAt, fieldAt, fieldsAt}
 use Rattle.frame.specs.Table as frame
-use Rattle.table.specs.Table.{found, written, made, grown, numberIn, placeIn, ranged, answer, table, Holds, all, _also_}
+use Rattle.table.specs.Table.{found, written, made, grown, numberIn, placeIn, ranged, answer, table, answers, replies}
 
 -- the statement
-pub holds-table : Holds table
-unfolding table answer found written made grown if_then_else_ andThen be bytesBE partOf fixedAt takeAt varLen varAt varTag varSize varBytes in62 varOut cidOf cidOn longCidAt windowOf isCut bytesFor cutTo cutMade nearestTo expanded typeOf refuse outside unfixed listed headed initialAt lengthAt tailAt bodyAt longAt shortAt firstAt headerBy numberIn placeIn ranged rounds scanAt ackStep goOn stepping thenRead upTo blocksAt fieldAt fieldsAt frame.table frame.bodyAt frame.outcome frame.frameAt
-holds-table =
-    refl also refl also refl also refl also refl also refl also refl also refl also refl also refl also refl also refl also refl also refl also refl also refl also all
+pub holds-table : answers table ≡ replies table
+unfolding table answers replies answer found written made grown if_then_else_ andThen be bytesBE partOf fixedAt takeAt varLen varAt varTag varSize varBytes in62 varOut cidOf cidOn longCidAt windowOf isCut bytesFor cutTo cutMade nearestTo expanded typeOf refuse outside unfixed listed headed initialAt lengthAt tailAt bodyAt longAt shortAt firstAt headerBy numberIn placeIn ranged rounds scanAt ackStep goOn stepping thenRead upTo blocksAt fieldAt fieldsAt frame.table frame.bodyAt frame.outcome frame.frameAt
+holds-table = refl
