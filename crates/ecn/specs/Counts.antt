@@ -5,8 +5,8 @@ use lib.Dec.{ltb}
 use Rattle.coding.specs.Words.{if_then_else_, Answer, no, ok}
 use Rattle.coding.specs.Refusals.{numberOf}
 use Rattle.coding.specs.declared.refusal.Refusal.the-variants as ref
-use Rattle.shared.specs.declared.ecn.EcnCodepoint.{EcnCodepoint}
-use Rattle.shared.specs.declared.ecn.EcnCodepoint.the-variants.{Ect0, Ect1, Ce}
+use Rattle.shared.specs.declared.codepoint.EcnCodepoint.{EcnCodepoint}
+use Rattle.shared.specs.declared.codepoint.EcnCodepoint.the-variants.{Ect0, Ect1, Ce}
 use Rattle.ecn.specs.declared.EcnCounts.{EcnCounts}
 use Rattle.ecn.specs.declared.Raise.{Raise}
 use Rattle.ecn.specs.declared.Raise.the-variants.{Done, Refused}

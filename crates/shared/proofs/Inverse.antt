@@ -11,10 +11,10 @@ use Rattle.shared.specs.declared.cid.ConnectionId.{ConnectionId}
 use Rattle.shared.specs.declared.cid.CidRead.{CidRead}
 use Rattle.shared.specs.declared.cid.CidAnswer.{CidAnswer}
 use Rattle.shared.specs.declared.cid.CidAnswer.the-variants as cid
-use Rattle.shared.specs.declared.ecn.EcnCodepoint.{EcnCodepoint}
-use Rattle.shared.specs.declared.ecn.EcnCodepoint.the-variants as ecn
-use Rattle.shared.specs.declared.ecn.EcnRead.{EcnRead}
-use Rattle.shared.specs.declared.ecn.EcnRead.the-variants as ecn-read
+use Rattle.shared.specs.declared.codepoint.EcnCodepoint.{EcnCodepoint}
+use Rattle.shared.specs.declared.codepoint.EcnCodepoint.the-variants as ecn
+use Rattle.shared.specs.declared.codepoint.EcnRead.{EcnRead}
+use Rattle.shared.specs.declared.codepoint.EcnRead.the-variants as ecn-read
 use Rattle.shared.specs.declared.kinds.Side.{Side}
 use Rattle.shared.specs.declared.kinds.Side.the-variants as side
 use Rattle.shared.specs.declared.kinds.Dir.{Dir}

@@ -26,10 +26,10 @@ use Rattle.shared.proofs.cid.ConnectionId.put_long as put-long
 use Rattle.shared.proofs.cid.ConnectionId.put_long.Reads as put-long-reads
 use Rattle.shared.proofs.cid.ConnectionId.encode_long as encode-long
 use Rattle.shared.proofs.cid.ConnectionId.encode_long.Reads as encode-long-reads
-use Rattle.shared.proofs.ecn.EcnCodepoint.from_bits as from-bits
-use Rattle.shared.proofs.ecn.EcnCodepoint.from_bits.Reads as from-bits-reads
-use Rattle.shared.proofs.ecn.EcnCodepoint.is_ce as is-ce
-use Rattle.shared.proofs.ecn.EcnCodepoint.is_ce.Reads as is-ce-reads
+use Rattle.shared.proofs.codepoint.EcnCodepoint.from_bits as from-bits
+use Rattle.shared.proofs.codepoint.EcnCodepoint.from_bits.Reads as from-bits-reads
+use Rattle.shared.proofs.codepoint.EcnCodepoint.is_ce as is-ce
+use Rattle.shared.proofs.codepoint.EcnCodepoint.is_ce.Reads as is-ce-reads
 use Rattle.shared.proofs.kinds.Side.is_client as is-client
 use Rattle.shared.proofs.kinds.Side.is_client.Reads as is-client-reads
 use Rattle.shared.proofs.kinds.Side.is_server as is-server

@@ -1,6 +1,6 @@
 // Connection ids, ECN codepoints, and the kinds of number that a connection counts with (shared.rs; lib.rs).
 mod cid; // cid.rt: connection ids
-mod ecn; // ecn.rt: explicit congestion notification
+mod codepoint; // codepoint.rt: explicit congestion notification
 mod kinds; // kinds.rt: stream ids, frame types, packet numbers
 
 pub use cid::CidAnswer;
@@ -8,8 +8,8 @@ pub use cid::CidRead;
 pub use cid::ConnectionId;
 pub use cid::MAX_CID_SIZE;
 pub use cid::long_place;
-pub use ecn::EcnCodepoint;
-pub use ecn::EcnRead;
+pub use codepoint::EcnCodepoint;
+pub use codepoint::EcnRead;
 pub use kinds::CutNumber;
 pub use kinds::Dir;
 pub use kinds::FrameType;

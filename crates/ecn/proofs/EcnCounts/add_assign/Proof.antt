@@ -45,14 +45,14 @@ use denote.Exit.{yes}
 use Rattle.ecn.specs.Counts.{moreOf, raiseOf, countsAfter, saidAfter}
 use Rattle.ecn.proofs.One.{more-count, more-said}
 use Rattle.ecn.specs.declared.EcnCounts.{EcnCounts}
-use Rattle.shared.specs.declared.ecn.EcnCodepoint.{EcnCodepoint}
-use Rattle.shared.specs.declared.ecn.EcnCodepoint.the-variants.{Ect0, Ect1, Ce}
+use Rattle.shared.specs.declared.codepoint.EcnCodepoint.{EcnCodepoint}
+use Rattle.shared.specs.declared.codepoint.EcnCodepoint.the-variants.{Ect0, Ect1, Ce}
 use Rattle.ecn.specs.declared.Raised.{Raised}
 use Rattle.ecn.specs.declared.Raise.{Raise}
 use Rattle.ecn.proofs.EcnCounts as T
 use Rattle.ecn.proofs.EcnCounts.Laws as T′
-use Rattle.shared.proofs.ecn.EcnCodepoint as P
-use Rattle.shared.proofs.ecn.EcnCodepoint.Laws as P′
+use Rattle.shared.proofs.codepoint.EcnCodepoint as P
+use Rattle.shared.proofs.codepoint.EcnCodepoint.Laws as P′
 use Rattle.ecn.proofs.Raise as N
 use Rattle.ecn.proofs.Raise.Laws as N′
 use Rattle.ecn.proofs.Raised as S

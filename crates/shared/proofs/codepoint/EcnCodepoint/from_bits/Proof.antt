@@ -1,10 +1,10 @@
 use Rattle.shared.specs.Ecn.{ecnBits}
 use lib.Bits.{and-mask}
 use native.Mathlib.Omega.{arith}
-use Rattle.shared.proofs.ecn.EcnCodepoint.from_bits.Statement.{statement}
-use Rattle.shared.proofs.ecn.EcnCodepoint.from_bits.Tie as tie
-use Rattle.shared.proofs.ecn.EcnCodepoint.from_bits.Reads as reads
-use Rattle.shared.proofs.ecn.EcnCodepoint.from_bits.Lts as lts
+use Rattle.shared.proofs.codepoint.EcnCodepoint.from_bits.Statement.{statement}
+use Rattle.shared.proofs.codepoint.EcnCodepoint.from_bits.Tie as tie
+use Rattle.shared.proofs.codepoint.EcnCodepoint.from_bits.Reads as reads
+use Rattle.shared.proofs.codepoint.EcnCodepoint.from_bits.Lts as lts
 
 returns : tie.Need-returns
 unfolding ecnBits
