@@ -1,5 +1,6 @@
 // ACK blocks (frame.rs, scan_ack_blocks and AckIter's step; RFC 9000, section 19.3.1). The scan ends by its bytes, whatever
 // count is declared: each round reads two integers, and the first that is cut ends it.
+use coding::MAX_DATAGRAM;
 use coding::Refusal;
 use coding::VarRead;
 use shared::FullNumber;
@@ -8,9 +9,6 @@ ghost use Rattle.coding.specs.Refusals.{numberOf};
 ghost use Rattle.ack.specs.Scan.{rounds, scanned};
 ghost use Rattle.ack.specs.Step.{refuse, ackStep};
 ghost use Rattle.ack.specs.Said.{scannedOf, takenOf};
-
-// The longest payload.
-pub const MAX_PAYLOAD: usize = 65_527;
 
 // The place past the blocks, or a refusal.
 pub enum Scanned {
@@ -94,7 +92,7 @@ fn refused(why: Refusal, at: usize, largest: FullNumber) -> AckTaken
 pub fn ack_step(s: &[u8], at: usize, largest: FullNumber) -> AckTaken
     ensures { λ r. ⌜ takenOf r ≡ ackStep (now (s .entry)) at (largest .0) ⌝ }
 {
-    if MAX_PAYLOAD < s.len() {
+    if MAX_DATAGRAM < s.len() {
         return refused(Refusal::Argument, at, largest);
     }
     if 0x4000_0000_0000_0000 <= largest.0 {

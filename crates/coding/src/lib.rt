@@ -17,6 +17,9 @@ ghost use Rattle.coding.specs.Writing.{Put};
 ghost use Rattle.coding.specs.Places.{Part, startOf, partOf};
 ghost use Rattle.coding.specs.Said.{u8Of, u16Of, u32Of, u64Of, varOf, placeOf, Below};
 
+// The longest datagram, packet, payload, header or frame: what UDP's length field leaves.
+pub const MAX_DATAGRAM: usize = 65_527;
+
 // What a read finds: the value and the place past it, or the end of the input.
 pub enum U8Read {
     Num(u8, usize),

@@ -4,8 +4,8 @@ mod body; // body.rt: each kind's fields, and the decision over the type's numbe
 mod field; // field.rt: the fields that are more than an integer
 mod kinds; // kinds.rt: what a frame is
 
-use ack::MAX_PAYLOAD;
 use body::Body;
+use coding::MAX_DATAGRAM;
 use coding::Refusal;
 use coding::VarRead;
 pub use kinds::Ack;
@@ -83,7 +83,7 @@ pub(crate) fn read_frame(s: &[u8], start: usize) -> FrameRead
 pub fn step(payload: &[u8], at: usize) -> FrameStep
     ensures { λ r. ⌜ stepOf r ≡ stepAt table (now (payload .entry)) at ⌝ }
 {
-    if MAX_PAYLOAD < payload.len() {
+    if MAX_DATAGRAM < payload.len() {
         return FrameStep::Read(FrameRead::Refused {
             why: Refusal::Argument,
             start: at,

@@ -3,6 +3,7 @@ use crate::Decoded;
 use crate::LongHeaderType;
 use crate::LongType;
 use crate::ProtectedHeader;
+use coding::MAX_DATAGRAM;
 use coding::Place;
 use coding::PlaceRead;
 use coding::Refusal;
@@ -37,7 +38,7 @@ pub(crate) fn refused(why: Refusal) -> Decoded
 pub(crate) fn is_outside(s: &[u8], local: usize, versions: &[u32]) -> bool
     ensures { λ r. ⌜ r ≡ outside (now (s .entry)) local (now (versions .entry)) ⌝ }
 {
-    if 65527 < s.len() {
+    if MAX_DATAGRAM < s.len() {
         return true;
     }
     if 20 < local {

@@ -2,6 +2,7 @@
 // Encryption follows, and then protect's mask step.
 mod header; // header.rt: the kinds of header, and what stands around the connection ids
 
+use coding::MAX_DATAGRAM;
 use coding::Refusal;
 use coding::Sized;
 use coding::VarInt;
@@ -23,9 +24,6 @@ ghost use Rattle.protect.specs.Tests.{numberBytes};
 ghost use Rattle.packet_out.specs.Encoding.{Encodes, namesBytes, tokenBytes, lengthBytes, numberField, placeholder, numberKeeps, keepRules, numberLenIn, inHeader};
 ghost use Rattle.packet_out.specs.Length.{PutsLength, SetsLength};
 ghost use Rattle.packet_out.specs.Said.{plainOf, cutOf, versionOf, formBytes, encodedOf, setOf};
-
-// The most bytes of a header, as of a packet.
-const MAX_HEADER: usize = 65527;
 
 // What a header was written with: its length, its number's, and whether a Length is to be set.
 pub struct PartialEncode {
@@ -133,14 +131,14 @@ fn size(
     if !form.has_token {
         return Sized::Bytes(fixed);
     }
-    if MAX_HEADER < token.len() {
+    if MAX_DATAGRAM < token.len() {
         return Sized::Refused(Refusal::Argument);
     }
     let Sized::Bytes(n) = VarInt(token.len() as u64).size() else {
         return Sized::Refused(Refusal::Argument);
     };
     let all = fixed + n + token.len();
-    if MAX_HEADER < all {
+    if MAX_DATAGRAM < all {
         return Sized::Refused(Refusal::Argument);
     }
     Sized::Bytes(all)

@@ -1,5 +1,6 @@
 // Header protection, where the packet stands (RFC 9001, 5.4; packet.rs, PartialDecode::finish, decrypt_header and
 // PartialEncode::finish): the sample's place, finish, and the mask step. The mask comes as a value.
+use coding::MAX_DATAGRAM;
 use coding::Place;
 use coding::Refusal;
 use coding::U32Read;
@@ -13,9 +14,6 @@ ghost use Rattle.protect.specs.Protection.{xor, xorAt, numberLen, firstM
 ghost use Rattle.protect.specs.Tests.{hasSample, formBit, numberBytes, numberFits, leastHeader, headerTests};
 ghost use Rattle.protect.specs.Steps.{sampleAt, openedBy, Opens, Finishes, PartAt, headerPlace, payloadPlace, Protects, Masks};
 ghost use Rattle.protect.specs.Said.{longOf, numberedOf, numberLenOf, sampleOf, finishedOf, maskedOf};
-
-// The most bytes of a packet.
-const MAX_PACKET: usize = 65527;
 
 // The kind of a header.
 pub enum Kind {
@@ -181,7 +179,7 @@ fn say_opened(long: bool, first: u8, word: u32) -> Finished
 pub fn sample_place(kind: Kind, packet: &[u8], number_offset: usize) -> SamplePlace
     ensures { λ r. ⌜ sampleOf r ≡ sampleAt (numberedOf kind) (now (packet .entry)) «number_offset» ⌝ }
 {
-    if MAX_PACKET < packet.len() {
+    if MAX_DATAGRAM < packet.len() {
         return SamplePlace::Refused(Refusal::Argument);
     }
     if !kind.has_number() {
@@ -223,7 +221,7 @@ fn finish_numbered(long: bool, packet: &mut [u8], number_offset: usize, mask: [u
 pub fn finish(kind: Kind, packet: &mut [u8], number_offset: usize, mask: [u8; 5]) -> Finished
     ensures { λ r. ⌜ Finishes (numberedOf kind) (longOf kind) (now (packet .entry)) «number_offset» mask (finishedOf r) (now (packet .exit)) ⌝ }
 {
-    if MAX_PACKET < packet.len() {
+    if MAX_DATAGRAM < packet.len() {
         return Finished::Refused(Refusal::Argument);
     }
     if !kind.has_number() {
@@ -296,7 +294,7 @@ fn least_header(number: NumberLen, has_length: bool) -> usize
 pub fn header_tests(header_len: usize, number: NumberLen, has_length: bool, len: usize) -> bool
     ensures { λ r. ⌜ r ≡ headerTests «header_len» (numberLenOf number) «has_length» len ⌝ }
 {
-    if MAX_PACKET < len {
+    if MAX_DATAGRAM < len {
         return false;
     }
     if len < header_len {
