@@ -20,28 +20,13 @@ use Rattle.shared.specs.declared.kinds.CutNumber.{CutNumber}
 use Rattle.packet.specs.Header.{outside, headerAt}
 use Rattle.packet.specs.TypeBits.{PacketType, typeOf, bitsOf}
 use Rattle.packet.specs.TypeBits as type
+use Rattle.packet.proofs.Types.{table}
 use Rattle.packet_out.specs.Encoding.{Plain, initial, zeroRtt, handshake, retry, short, negotiate, numberIn, bit, lowBits, longFirst, shortFirst, shapeBy, shapeBytes, namesBytes, tokenBytes, lengthBytes, numberField, headerBy, headerBytes, headerOut, inHeader, keepRules, numberKeeps, placeholder}
 use Rattle.packet_out.specs.Length.{lengthField}
 use Rattle.packet_out.specs.Back.{readAs, tokenPlace, Readable, Typed}
 use Rattle.packet_out.proofs.Laws.{Kept, kept, cut-short, length-shape, length-token, fits-seen}
 use Rattle.packet_out.proofs.Fields.{ReadsAs}
 use Rattle.packet_out.proofs.Back.{Steers, upTo, header-back}
-
--- ---- the table of types and its inverse
-
-pub type-back : (t : PacketType) → typeOf (bitsOf t) ≡ t
-unfolding typeOf bitsOf if_then_else_
-type-back type.initial = refl
-type-back type.zeroRtt = refl
-type-back type.handshake = refl
-type-back type.retry = refl
-
-pub two-bits : (t : PacketType) → bitsOf t < 4
-unfolding bitsOf
-two-bits type.initial = omega arith
-two-bits type.zeroRtt = omega arith
-two-bits type.handshake = omega arith
-two-bits type.retry = omega arith
 
 -- ---- the Length's two bytes
 
@@ -133,7 +118,7 @@ encode-back p dst src token bs rest local versions grease e y d o =
     let s : bs ++ rest ≡ shapeBy bitsOf p .first ∷ upTo bitsOf p dst src token placeholder (numberField (numberIn p) ++ rest) =
     ap (λ (l : List ℕ). l ++ rest) (w .is) ∙ header-then bitsOf placeholder p dst src token rest in
     rw s
-    (header-back typeOf bitsOf type-back two-bits dst src token placeholder 0 1 (numberField (numberIn p) ++ rest) local versions grease p
+    (header-back typeOf bitsOf (table .back) (table .two) dst src token placeholder 0 1 (numberField (numberIn p) ++ rest) local versions grease p
     (shapeBy bitsOf p .first) (first-steers bitsOf p (w .kept .cut)) (λ h. reads-placeholder) (w .few) (w .kept) y d (rw s at o))
 
 -- and the token stands in its place

@@ -28,7 +28,7 @@ use Rattle.packet_out.specs.Length.{lengthField, lengthSet}
 use Rattle.packet_out.specs.Back.{openedAs}
 use Rattle.packet_out.proofs.Laws.{cut-short, length-shape, length-number, set-none, set-on, into-ok}
 use Rattle.packet_out.proofs.Back.{Steers, upTo, bit-small}
-use Rattle.packet_out.proofs.Again.{two-bits}
+use Rattle.packet.proofs.Types.{table}
 
 -- ---- the Length, in its place
 
@@ -179,7 +179,7 @@ module _ (c : CutNumber) (k : isCut c ≡ true) where
 
   long-form : (t : PacketType) → (longFirst (bitsOf t) + lowBits c) / 0x80 ≡ 1
   unfolding longFirst
-  long-form t = omega (arith, cut-short c k, two-bits t)
+  long-form t = omega (arith, cut-short c k, table .two t)
 
   long-says : (t : PacketType) → openedBy true (longFirst (bitsOf t) + lowBits c) (c .1) ≡ protect.long (c .0) (c .1) true
   unfolding openedBy longFirst if_then_else_

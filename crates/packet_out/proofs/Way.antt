@@ -34,7 +34,8 @@ use Rattle.packet_out.specs.Length.{lengthField, lengthSet}
 use Rattle.packet_out.specs.Back.{readAs, kindRead, tokenPlace, endRead, Readable, Typed, openedAs}
 use Rattle.packet_out.proofs.Laws.{length-shape, set-none}
 use Rattle.packet_out.proofs.Back.{upTo, header-back}
-use Rattle.packet_out.proofs.Again.{type-back, two-bits, reads-length, first-steers, header-then, WasWritten, was-written, encode-back, token-back}
+use Rattle.packet.proofs.Types.{table}
+use Rattle.packet_out.proofs.Again.{reads-length, first-steers, header-then, WasWritten, was-written, encode-back, token-back}
 use Rattle.packet_out.proofs.Sent.{length-field, sets, number-len, offset, passes, upToNumber, numbered, length-header, masked-steers, first-written, masked-shape}
 
 -- ---- split
@@ -187,7 +188,7 @@ module _ (p : Plain) (c : CutNumber) (is : numberIn p ≡ some c) (dst src : Con
   header-read =
       let o : outside (back .sent) local versions ≡ false = inside (back .sent) local versions (omega (arith, sent-long, packet-long, at-is, big)) short-cid few in
       rw sent-shape
-      (header-back typeOf bitsOf type-back two-bits dst src token field n 2 past local versions grease p hidden
+      (header-back typeOf bitsOf (table .back) (table .two) dst src token field n 2 past local versions grease p hidden
       (masked-steers p c (byteAt mask 0) is (first-steers bitsOf p (w .kept .cut))) (λ h. reads-length n (fits h)) (w .few) (w .kept) y d (rw sent-shape at o))
 
   number-read : opened long at (written ++ sealed) ≡ openedAs p
