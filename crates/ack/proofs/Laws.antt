@@ -6,7 +6,7 @@ use Prim.Native.Nat.{ℕ, zero, suc, _+_, _-_, _≤_, _<_, _^_}
 use native.Mathlib.Omega.{arith}
 use lib.Dec.{ltb}
 use lib.ListN.{length}
-use borrow.Author.Tests.{ltb-false, lt-leb}
+use borrow.Author.Tests.{ltb-false, lt-leb, le-ltb}
 use Rattle.coding.specs.Words.{if_then_else_, Got, cut, got, andThen, Answer, no, ok}
 use Rattle.coding.specs.Varint.{varAt}
 use Rattle.coding.specs.Said.{varOf}
@@ -47,9 +47,9 @@ one s zero at smallest h = absurd (omega arith)
 one s (suc n) at smallest h = let e : n ≡ suc n - 1 = omega arith in ap (λ (m : ℕ). round s m at smallest) e
 
 -- within the arguments' rule nothing is refused 14
-pub in-rule : (s : List ℕ) (at largest n : ℕ) → largest < 2 ^ 62 → n < 2 ^ 62 → scanned s at largest n ≡ scanAt s at largest n
+pub in-rule : (s : List ℕ) (at largest n : ℕ) → length s ≤ 65527 → largest < 2 ^ 62 → n < 2 ^ 62 → scanned s at largest n ≡ scanAt s at largest n
 unfolding scanned if_then_else_
-in-rule s at largest n h k = simp (lt-leb _ _ h, lt-leb _ _ k)
+in-rule s at largest n short h k = simp (le-ltb _ _ short, lt-leb _ _ h, lt-leb _ _ k)
 
 -- ---- where the scan ends: at or past a place, and inside the list
 

@@ -62,6 +62,9 @@ fn scan_rounds(s: &[u8], at: usize, low: u64, n: u64) -> Scanned
 pub fn scan_ack_blocks(s: &[u8], at: usize, largest: FullNumber, n: u64) -> Scanned
     ensures { λ r. ⌜ scannedOf r ≡ scanned (now (s .entry)) at (largest .0) n ⌝ }
 {
+    if MAX_DATAGRAM < s.len() {
+        return Scanned::Refused(Refusal::Argument);
+    }
     if 0x4000_0000_0000_0000 <= largest.0 {
         return Scanned::Refused(Refusal::Argument);
     }

@@ -4,7 +4,8 @@ use mathlib.Core.List.{List}
 use mathlib.Core.Bool.{Bool, true, false}
 use Prim.Native.Nat.{ℕ, _-_, _≤_, _<_, _^_}
 use native.Mathlib.Omega.{arith}
-use lib.Dec.{leb}
+use lib.ListN.{length}
+use lib.Dec.{ltb, leb}
 use Rattle.coding.specs.Words.{if_then_else_, no, ok}
 use Rattle.coding.specs.Refusals.{numberOf}
 use Rattle.coding.specs.declared.Place.{Place}
@@ -19,16 +20,17 @@ use Rattle.frame.specs.Format.{Read, done, refuse, upTo}
 -- the scan ends at its start or past it
 pub scan-past : (s : List ℕ) (p largest n : ℕ) (r : Scanned) (next : ℕ) → scannedOf r ≡ scanned s p largest n → r ≡ scan.To next → p ≤ next
 unfolding scannedOf scanned if_then_else_
-scan-past s p largest n r next e q = go (leb (2 ^ 62) largest) (leb (2 ^ 62) n) (sym (rw q at e))
+scan-past s p largest n r next e q = go (ltb 65527 (length s)) (leb (2 ^ 62) largest) (leb (2 ^ 62) n) (sym (rw q at e))
   where
-    go : (a b : Bool) → (if a then no 14 else if b then no 14 else scanAt s p largest n) ≡ ok next → p ≤ next
-    go true b h = let z : _≡_ {A = ℕ} 0 1 = cc in absurd (omega arith)
-    go false true h = let z : _≡_ {A = ℕ} 0 1 = cc in absurd (omega arith)
-    go false false h = let i : Inside s p (ok next) = rw h at (scan-inside s p largest n) in i .0
+    go : (l a b : Bool) → (if l then no 14 else if a then no 14 else if b then no 14 else scanAt s p largest n) ≡ ok next → p ≤ next
+    go true a b h = let z : _≡_ {A = ℕ} 0 1 = cc in absurd (omega arith)
+    go false true b h = let z : _≡_ {A = ℕ} 0 1 = cc in absurd (omega arith)
+    go false false true h = let z : _≡_ {A = ℕ} 0 1 = cc in absurd (omega arith)
+    go false false false h = let i : Inside s p (ok next) = rw h at (scan-inside s p largest n) in i .0
 
-module _ (x : Read Place) (s : List ℕ) (p largest n : ℕ) (r : Scanned) (e : scannedOf r ≡ scanned s p largest n) (small : largest < 2 ^ 62) (few : n < 2 ^ 62) where
+module _ (x : Read Place) (s : List ℕ) (p largest n : ℕ) (r : Scanned) (e : scannedOf r ≡ scanned s p largest n) (short : length s ≤ 65527) (small : largest < 2 ^ 62) (few : n < 2 ^ 62) where
   same : scannedOf r ≡ scanAt s p largest n
-  same = e ∙ in-rule s p largest n small few
+  same = e ∙ in-rule s p largest n short small few
 
   pub scan-on : (next : ℕ) → r ≡ scan.To next → x ≡ done (record { start = p; len = next - p }) next → x ≡ upTo p (scanAt s p largest n)
   unfolding upTo scannedOf

@@ -25,7 +25,8 @@ pub use kinds::Stream;
 pub use kinds::TypeRead;
 use shared::FrameType;
 ghost use mathlib.Core.Path.{_≡_};
-ghost use Prim.Native.Nat.{_-_};
+ghost use Prim.Native.Nat.{_-_, _≤_};
+ghost use lib.ListN.{length};
 ghost use Rattle.frame.specs.Table.{table, frameAt};
 ghost use Rattle.frame.specs.Walk.{stepAt, sized};
 ghost use Rattle.frame.specs.Said.{saidOf, stepOf, sizedOf};
@@ -56,8 +57,9 @@ pub struct SizedStep {
     pub size: usize,
 }
 
-// The frame at a place, in a slice of any length: the payload's own rule is tested by `step`.
+// The frame at a place of a payload whose own rule `step` has tested.
 pub(crate) fn read_frame(s: &[u8], start: usize) -> FrameRead
+    requires { ⌜ length (now s) ≤ 65527 ⌝ }
     ensures { λ r. ⌜ saidOf r ≡ frameAt table (now (s .entry)) start ⌝ }
 {
     let VarRead::Var(number, at) = coding::get_var(s, start) else {

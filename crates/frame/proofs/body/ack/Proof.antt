@@ -22,7 +22,7 @@ ack-spec =
     (λ c. search needs)
     (λ c. search frames depth 40 fits 4000)
     (λ c κs. let a = c .before .before .before .before .before .before .before .before in
-    var-small (now (a .before .args .s)) _ _ _ _ (λ i. omega (arith, a .shared-slice-known .given i)) (c .before .before .before .before .before .before .before .get-var .ensures) (c .before .before .before .before .before .largest .given .1))
+    (var-small (now (a .before .args .s)) _ _ _ _ (λ i. omega (arith, a .shared-slice-known .given i)) (c .before .before .before .before .before .before .before .get-var .ensures) (c .before .before .before .before .before .largest .given .1), search needs))
     (λ c. search needs)
     (λ c. search needs)
     (λ c κs. search needs)
