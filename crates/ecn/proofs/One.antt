@@ -7,7 +7,8 @@ use Rattle.coding.specs.Words.{if_then_else_, Answer, no, ok}
 use Rattle.coding.specs.declared.refusal.Refusal.the-variants as ref
 use Rattle.coding.proofs.Inverse.{one-by, answered}
 use Rattle.coding.proofs.Numbers.{refusalOf, refusal-back}
-use Rattle.ecn.specs.Counts.{saidOf, countOf, moreOf, raiseOf}
+use Rattle.ecn.specs.Counts.{saidOf, countOf}
+use Rattle.ecn.specs.Said.{moreOf, raiseOf}
 use Rattle.ecn.specs.declared.Raise.{Raise}
 use Rattle.ecn.specs.declared.Raise.the-variants.{Done, Refused}
 use Rattle.ecn.specs.declared.Raised.{Raised}

@@ -2,7 +2,9 @@
 use coding::Refusal;
 use shared::EcnCodepoint;
 ghost use mathlib.Core.Path.{_≡_};
-ghost use Rattle.ecn.specs.Counts.{moreOf, raiseOf, countsAfter, saidAfter};
+ghost use Rattle.shared.specs.Said.{ecnOf};
+ghost use Rattle.ecn.specs.Counts.{countsAfter, saidAfter};
+ghost use Rattle.ecn.specs.Said.{moreOf, raiseOf};
 
 pub struct EcnCounts {
     pub ect0: u64,
@@ -48,7 +50,7 @@ fn more(n: u64) -> Raised
 impl EcnCounts {
     // One count is raised where it stands, and the other two stay; a refusal changes nothing.
     pub fn add_assign(&mut self, rhs: EcnCodepoint) -> Raise
-        ensures { λ r. ⌜ (now (self .exit) ≡ countsAfter (now (self .entry)) rhs) × (raiseOf r ≡ saidAfter (now (self .entry)) rhs) ⌝ }
+        ensures { λ r. ⌜ (now (self .exit) ≡ countsAfter (now (self .entry)) (ecnOf rhs)) × (raiseOf r ≡ saidAfter (now (self .entry)) (ecnOf rhs)) ⌝ }
     {
         match rhs {
             EcnCodepoint::Ect0 => {

@@ -42,7 +42,9 @@ use denote.Triple.Table.{entered, cited}
 use denote.Triple.Walked.{says, Stays, stay-ref, stay-none, walkOf, goes-none, goes-ref, Walks, ends-at, walked, walk-meets}
 use denote.Triple.Clauses.{ensured, lasts}
 use denote.Exit.{yes}
-use Rattle.ecn.specs.Counts.{moreOf, raiseOf, countsAfter, saidAfter}
+use Rattle.shared.specs.Said.{ecnOf}
+use Rattle.ecn.specs.Counts.{countsAfter, saidAfter}
+use Rattle.ecn.specs.Said.{moreOf, raiseOf}
 use Rattle.ecn.proofs.One.{more-count, more-said}
 use Rattle.ecn.specs.declared.EcnCounts.{EcnCounts}
 use Rattle.shared.specs.declared.codepoint.EcnCodepoint.{EcnCodepoint}
@@ -136,7 +138,7 @@ module _ {M : Type 1} (𝓤 : URA M) (H : Heap 𝓤) (A : Atoms 𝓤) (W : Given
   isp Ect1 = EL.owes P.the-type P′.the-laws Ect1 tt
   isp Ce = EL.owes P.the-type P′.the-laws Ce tt
 
-  exits : (p : EcnCodepoint) (h′ : EcnCounts) (a : Raise) → Is N.the-row a (EL.vals N.the-type N′.the-laws a) → (h′ ≡ countsAfter h p) × (raiseOf a ≡ saidAfter h p)
+  exits : (p : EcnCodepoint) (h′ : EcnCounts) (a : Raise) → Is N.the-row a (EL.vals N.the-type N′.the-laws a) → (h′ ≡ countsAfter h (ecnOf p)) × (raiseOf a ≡ saidAfter h (ecnOf p))
       → ent 𝓤 (sep 𝓤 (A .obs γ (T.the-row .coded .code h′)) (sep 𝓤 (A .bor κ (Body (mem T.the-row) b o γ)) (A .lft κ q))) (Post p (EL.val N.the-type N′.the-laws a))
   exits p h′ a isa e =
       qed W (‵ (fobs γ (T.the-row .coded .code h′)) ∷ ‵ (fbor κ (Body (mem T.the-row) b o γ)) ∷ ‵ (flft κ q) ∷ []) ∵
@@ -181,7 +183,7 @@ module _ {M : Type 1} (𝓤 : URA M) (H : Heap 𝓤) (A : Atoms 𝓤) (W : Given
     Open p h′ six = ‵ (cellAt fullShare (T.the-row .mir) (hv h′) b o) ∷ ‵ (fobor κ q (Body (mem T.the-row) b o γ)) ∷ ‵ (fobs γ (T.the-row .coded .code h)) ∷ ‵ (fauth γ (T.the-row .coded .code h)) ∷ Locals p six
 
     -- what follows the match: the borrow is closed, the answer is returned, and the locals are freed
-    leaves : (p : EcnCodepoint) (h′ : EcnCounts) (a : Raise) → Is T.the-row h′ (hv h′) → Is N.the-row a (EL.vals N.the-type N′.the-laws a) → (h′ ≡ countsAfter h p) × (raiseOf a ≡ saidAfter h p)
+    leaves : (p : EcnCodepoint) (h′ : EcnCounts) (a : Raise) → Is T.the-row h′ (hv h′) → Is N.the-row a (EL.vals N.the-type N′.the-laws a) → (h′ ≡ countsAfter h (ecnOf p)) × (raiseOf a ≡ saidAfter h (ecnOf p))
         → Sq W (Open p h′ (‵ (fat fullShare N′.mir l₆ 0 (EL.val N.the-type N′.the-laws a)))) (runs C Λ E mir.t-2 (atRet E (Post p)))
     leaves p h′ a ish isa e =
         owned ! T.the-row (Is T.the-row) (LL.makes T.the-type T′.the-plain 𝓤 H A) h′ _ ish $ move ! (1 ∷ 0 ∷ []) $ closes ! tt T.the-row h′ (hv h′) b o $
