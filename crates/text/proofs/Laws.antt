@@ -1,15 +1,18 @@
--- Laws of numbers in decimal. Assumes nothing.
+-- Laws of numbers in decimal and of bytes in hex. Assumes nothing.
 use mathlib.Core.Path.{_≡_, refl, ap, _∙_}
 use mathlib.Core.List.{List, [], _∷_, _++_}
 use mathlib.Core.Bool.{Bool, true, false}
 use Prim.Native.Nat.{ℕ, zero, suc, _+_, _-_, _*_, _/_, _%_, _^_, _≤_, _<_}
 use native.Mathlib.Nat.{not-suc-le-zero, pow-suc, div-lt-iff-lt-mul}
+use native.Mathlib.Numerals.{add-one}
 use native.Mathlib.Omega.{arith}
 use lib.Dec.{ltb}
-use lib.ListN.{length, getD, length-append, List·getD-append}
+use lib.ListN.{length, take, getD, length-append, List·getD-append}
+use lib.Seq.{take-suc}
 use borrow.Author.Tests.{ltb-true, ltb-false, lt-ltb, le-ltb}
 use Rattle.coding.specs.Words.{if_then_else_}
 use Rattle.text.specs.Decimal.{digits, decimal}
+use Rattle.text.specs.Hex.{hexDigit, hexOf, hexOr}
 
 -- ---- the two cases
 
@@ -103,3 +106,31 @@ no-leading-zero = by-digits (λ x. 1 ≤ x → 0x30 < getD (decimal x) 0 0) one 
     more x h ih k =
         let s : 0 < length (decimal (x / 10)) = decimal-some (x / 10) in
         rw (more-digits x h, List·getD-append (decimal (x / 10)) ((0x30 + x % 10) ∷ []) 0 0 s) (ih (omega arith))
+
+-- ---- bytes in hex
+
+pub length-hex : (bs : List ℕ) → length (hexOf bs) ≡ 2 * length bs
+unfolding hexOf
+length-hex [] = refl
+length-hex (b ∷ bs) = omega (arith, length-hex bs)
+
+hex-both : (xs ys : List ℕ) → hexOf (xs ++ ys) ≡ hexOf xs ++ hexOf ys
+unfolding hexOf
+hex-both [] ys = refl
+hex-both (x ∷ xs) ys = ap (λ (l : List ℕ). hexDigit (x / 16) ∷ hexDigit (x % 16) ∷ l) (hex-both xs ys)
+
+-- one byte more
+pub hex-more : (bs : List ℕ) (i : ℕ) → i < length bs
+    → hexOf (take (i + 1) bs) ≡ hexOf (take i bs) ++ (hexDigit (getD bs i 0 / 16) ∷ hexDigit (getD bs i 0 % 16) ∷ [])
+unfolding hexOf
+hex-more bs i h = rw (add-one, take-suc bs i 0 h) (hex-both (take i bs) (getD bs i 0 ∷ []))
+
+pub hex-none : (none l : List ℕ) → length l ≡ 0 → hexOr none l ≡ none
+unfolding hexOr
+hex-none none [] h = refl
+hex-none none (b ∷ bs) h = absurd (omega arith)
+
+pub hex-some : (none l : List ℕ) → (length l ≡ 0 → ⊥) → hexOr none l ≡ hexOf l
+unfolding hexOr
+hex-some none [] h = absurd (h refl)
+hex-some none (b ∷ bs) h = refl

@@ -1,0 +1,22 @@
+use borrow.Author.Needs.{needs}
+use Rattle.coding.proofs.Rules.{steps}
+use Rattle.text.specs.Hex.{hexDigit}
+use Rattle.text.proofs.hex_digit.Statement.{statement}
+use Rattle.text.proofs.hex_digit.Tie as tie
+
+add-result : tie.Need-add-result
+add-result c = search needs
+
+returns : tie.Need-returns
+unfolding hexDigit
+returns c = search steps depth 40 fits 4000
+
+add-result-2 : tie.Need-add-result-2
+add-result-2 c = search needs
+
+returns-2 : tie.Need-returns-2
+unfolding hexDigit
+returns-2 c = search steps depth 40 fits 4000
+
+pub hex-digit-spec : {M : Type 1} → statement M
+hex-digit-spec = tie.close (tie.spec add-result returns add-result-2 returns-2)
