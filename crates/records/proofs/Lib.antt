@@ -1,0 +1,4 @@
+-- For the crates above: `Onces` has that each public function has only one answer. `Rules` and `Laws` are for this crate's own proofs.
+pub mod Rules
+pub mod Laws
+pub mod Onces
