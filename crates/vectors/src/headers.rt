@@ -1,11 +1,11 @@
 // Headers, and where packets end: document 01 (version 1, local CID length 0, grease off); RFC 9001, A.2 to A.5.
-use crate::report;
-use crate::report::Tally;
+use crate::Page;
 use coding::Place;
 use packet::Decoded;
 use packet::PayloadLen;
 use packet::ProtectedHeader;
 use packet::Rest;
+use report::Tally;
 use shared::ConnectionId;
 
 fn refusal_of(header: ProtectedHeader) -> u8 {
@@ -24,31 +24,42 @@ fn has_rest(rest: Rest) -> bool {
 }
 
 // The first packet of a datagram has this length, and the rest has that, or there is none; or it is refused.
-fn splits(t: Tally, name: &[u8], s: &[u8], refusal: u8, len: usize, rest: usize) -> Tally {
-    report::ask(name, b"split");
-    report::bytes(s);
+fn splits(
+    out: &mut Page,
+    t: Tally,
+    name: &[u8],
+    s: &[u8],
+    refusal: u8,
+    len: usize,
+    rest: usize,
+) -> Tally {
+    let t = report::ask_bytes(out, t, name, b"split", s);
     let found = packet::split(s, 0, &[1], false);
     let plain = found.plain_header;
     let header = plain.header;
     let after = found.rest;
     let left = found.rest(s).len();
-    report::answer(b"packet of ");
-    report::number(found.len() as u64);
-    report::say(b", rest of ");
-    report::number(left as u64);
-    report::say(b", refusal ");
-    report::number(refusal_of(header) as u64);
+    let t = report::answer(out, t, b"packet of ");
+    let t = report::number(out, t, found.len() as u64);
+    let t = report::say(out, t, b", rest of ");
+    let t = report::number(out, t, left as u64);
+    let t = report::say(out, t, b", refusal ");
+    let t = report::number(out, t, refusal_of(header) as u64);
     let same = refusal_of(header) == refusal && found.len() == len;
-    report::held(t, same && left == rest && has_rest(after) == (rest != 0))
+    report::held(
+        out,
+        t,
+        same && left == rest && has_rest(after) == (rest != 0),
+    )
 }
 
 // The first packet takes the whole datagram.
-fn whole(t: Tally, name: &[u8], s: &[u8]) -> Tally {
-    splits(t, name, s, 0, s.len(), 0)
+fn whole(out: &mut Page, t: Tally, name: &[u8], s: &[u8]) -> Tally {
+    splits(out, t, name, s, 0, s.len(), 0)
 }
 
-fn refused(t: Tally, name: &[u8], s: &[u8], refusal: u8) -> Tally {
-    splits(t, name, s, refusal, 0, 0)
+fn refused(out: &mut Page, t: Tally, name: &[u8], s: &[u8], refusal: u8) -> Tally {
+    splits(out, t, name, s, refusal, 0, 0)
 }
 
 fn is_cid(cid: ConnectionId, told: &[u8]) -> bool {
@@ -67,6 +78,7 @@ fn end_of(plain: Decoded) -> u64 {
 
 // A header with these connection ids and this number offset, of a packet that ends there.
 fn decodes(
+    out: &mut Page,
     t: Tally,
     name: &[u8],
     s: &[u8],
@@ -75,21 +87,21 @@ fn decodes(
     offset: usize,
     end: u64,
 ) -> Tally {
-    report::ask(name, b"decode");
-    report::bytes(s);
+    let t = report::ask_bytes(out, t, name, b"decode", s);
     let found = packet::decode(s, 0, &[1], false);
     let to = found.dst_cid;
     let from = found.src_cid;
-    report::answer(b"number offset ");
-    report::number(found.number_offset as u64);
-    report::say(b", end ");
-    report::number(end_of(found));
+    let t = report::answer(out, t, b"number offset ");
+    let t = report::number(out, t, found.number_offset as u64);
+    let t = report::say(out, t, b", end ");
+    let t = report::number(out, t, end_of(found));
     let same = found.number_offset == offset && end_of(found) == end;
-    report::held(t, same && is_cid(to, dst) && is_cid(from, src))
+    report::held(out, t, same && is_cid(to, dst) && is_cid(from, src))
 }
 
-fn document(t: Tally) -> Tally {
+fn document(out: &mut Page, t: Tally) -> Tally {
     let t = splits(
+        out,
         t,
         b"the dump datagram",
         b"\xe0\x00\x00\x00\x01\x00\x00\x01\xaa\x40",
@@ -98,23 +110,32 @@ fn document(t: Tally) -> Tally {
         1,
     );
     let t = whole(
+        out,
         t,
         b"with Length 02",
         b"\xe0\x00\x00\x00\x01\x00\x00\x02\xaa\x40",
     );
     let t = refused(
+        out,
         t,
         b"with Length 03",
         b"\xe0\x00\x00\x00\x01\x00\x00\x03\xaa\x40",
         7,
     );
-    let t = refused(t, b"a cut version", b"\xe0\x00\x00\x00", 1);
-    let t = refused(t, b"no CID length", b"\xe0\x00\x00\x00\x01", 3);
-    refused(t, b"a CID length of 21", b"\xe0\x00\x00\x00\x01\x15", 3)
+    let t = refused(out, t, b"a cut version", b"\xe0\x00\x00\x00", 1);
+    let t = refused(out, t, b"no CID length", b"\xe0\x00\x00\x00\x01", 3);
+    refused(
+        out,
+        t,
+        b"a CID length of 21",
+        b"\xe0\x00\x00\x00\x01\x15",
+        3,
+    )
 }
 
-fn rfc(t: Tally) -> Tally {
+fn rfc(out: &mut Page, t: Tally) -> Tally {
     let t = decodes(
+        out,
         t,
         b"RFC 9001, A.2",
         b"\xc0\x00\x00\x00\x01\x08\x83\x94\xc8\xf0\x3e\x51\x57\x08\x00\x00\x44\x9e\x7b\x9a\xec\x34",
@@ -124,6 +145,7 @@ fn rfc(t: Tally) -> Tally {
         1200,
     );
     let t = decodes(
+        out,
         t,
         b"RFC 9001, A.3",
         b"\xcf\x00\x00\x00\x01\x00\x08\xf0\x67\xa5\x50\x2a\x42\x62\xb5\x00\x40\x75\xc0\xd9",
@@ -133,17 +155,19 @@ fn rfc(t: Tally) -> Tally {
         135,
     );
     whole(
+        out,
         t,
         b"RFC 9001, A.5",
         b"\x4c\xfe\x41\x89\x65\x5e\x5c\xd5\x5c\x41\xf6\x90\x80\x57\x5d\x79\x99\xc2\x5a\x5b\xfb",
     )
 }
 
-fn retry(t: Tally) -> Tally {
+fn retry(out: &mut Page, t: Tally) -> Tally {
     let s =
         b"\xff\x00\x00\x00\x01\x00\x08\xf0\x67\xa5\x50\x2a\x42\x62\xb5\x74\x6f\x6b\x65\x6e\x04\xa2\x65\xba\x2e\xff\x4d\x82\x90\x58\xfb\x3f\x0f\x24\x96\xba";
-    let t = whole(t, b"RFC 9001, A.4", s);
+    let t = whole(out, t, b"RFC 9001, A.4", s);
     decodes(
+        out,
         t,
         b"RFC 9001, A.4",
         s,
@@ -154,6 +178,8 @@ fn retry(t: Tally) -> Tally {
     )
 }
 
-pub(crate) fn run(t: Tally) -> Tally {
-    retry(rfc(document(t)))
+pub(crate) fn run(out: &mut Page, t: Tally) -> Tally {
+    let t = document(out, t);
+    let t = rfc(out, t);
+    retry(out, t)
 }

@@ -1,0 +1,20 @@
+use Rattle.text.proofs.Puts.{pieces}
+use borrow.Author.Needs.{needs}
+use Rattle.report.proofs.bytes.Statement.{statement}
+use Rattle.report.proofs.bytes.Tie as tie
+
+slice-aggregate-put-hex-or : tie.Need-slice-aggregate-put-hex-or
+slice-aggregate-put-hex-or c = search needs
+
+put-hex-or-requires : tie.Need-put-hex-or-requires
+put-hex-or-requires c κs = search needs
+
+same-length : tie.Need-same-length
+same-length c = search needs
+
+returns : tie.Need-returns
+returns c = record { ran = search needs; differs = search needs; text = search pieces depth 40 fits 4000 }
+
+pub bytes-spec : {M : Type 1} → statement M
+bytes-spec =
+    tie.close (tie.spec slice-aggregate-put-hex-or put-hex-or-requires same-length returns)
