@@ -1,0 +1,4 @@
+-- In the order in which to read them.
+pub mod Writing
+pub mod Limits
+pub mod Back
