@@ -1,0 +1,41 @@
+-- The closes, held to max bytes as the Rust counts them: document 01, "Encoders"; RFC 9000, 19.19.
+use Prim.Native.Nat.{ℕ, _+_, _-_, _^_}
+use mathlib.Core.List.{List, [], _∷_}
+use mathlib.Core.Bool.{Bool, true, false}
+use lib.ListN.{length, take}
+use lib.Dec.{ltb, leb}
+use Rattle.coding.specs.Words.{if_then_else_, Answer, no, ok}
+use Rattle.coding.specs.Varint.{varSize}
+use Rattle.frame.specs.Table.{table}
+use Rattle.frame_write.specs.Writing.{Word, number, raw, numberIn}
+use Rattle.frame_write.specs.Limits.{frameOut}
+
+-- the transport's, with its error code and the frame type that caused it, or nothing; the application's, with its error code
+pub data Closing : Type 0 where
+  connection : ℕ → Word → Closing
+  application : ℕ → Closing
+
+abbrev pub isConnection : Closing → Bool
+isConnection (connection code ty) = true
+isConnection (application code) = false
+
+-- what is taken off max for the fields beside a reason of n bytes: the type, two bytes for the transport's error code, the other
+-- integers by their sizes, and the size of the whole reason's length
+unfoldable pub fixedFields : Closing → ℕ → ℕ
+fixedFields (connection code ty) n = 3 + varSize (numberIn ty) + varSize n
+fixedFields (application code) n = 1 + varSize code + varSize n
+
+-- the reason is cut to what is left; 14 where the fixed fields are more than max, or the reason's length is no integer
+unfoldable pub cutTo : ℕ → ℕ → List ℕ → Answer (List ℕ)
+cutTo fixed max reason =
+    if ltb (length reason) (2 ^ 62) then
+    (if leb fixed max then ok (take (max - fixed) reason) else no 14)
+    else no 14
+
+unfoldable pub closeWith : Closing → Answer (List ℕ) → Answer (List ℕ)
+closeWith c (no k) = no k
+closeWith (connection code ty) (ok reason) = frameOut table 0x1c (number code ∷ ty ∷ raw reason ∷ [])
+closeWith (application code) (ok reason) = frameOut table 0x1d (number code ∷ raw reason ∷ [])
+
+unfoldable pub closeOut : Closing → List ℕ → ℕ → Answer (List ℕ)
+closeOut c reason max = closeWith c (cutTo (fixedFields c (length reason)) max reason)

@@ -1,0 +1,4 @@
+-- In the order in which to read them.
+pub mod Frames
+pub mod Closes
+pub mod Said
