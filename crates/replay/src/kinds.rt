@@ -1,9 +1,9 @@
 // The operations of `shared`: connection ids, ECN, stream ids, frame types.
-use crate::line;
-use crate::record::lay;
 use coding::Place;
 use coding::part;
 use coding::put_slice;
+use records::line;
+use records::record::lay;
 use shared::CidAnswer;
 use shared::CidRead;
 use shared::ConnectionId;

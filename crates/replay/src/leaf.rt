@@ -1,6 +1,4 @@
 // The operations of `coding`: integers, fixed reads and puts, places.
-use crate::line;
-use crate::record::lay;
 use coding::Place;
 use coding::PlaceRead;
 use coding::Refusal;
@@ -14,6 +12,8 @@ use coding::VarMade;
 use coding::VarRead;
 use coding::part;
 use coding::put_slice;
+use records::line;
+use records::record::lay;
 
 // Where a put ended; bad where the record asks for none that there is.
 enum Ended {

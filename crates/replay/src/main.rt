@@ -1,114 +1,25 @@
-// Reads packed cases on standard input until it ends and prints the answer of our crates to each, a line for a case.
-// oracle/ has the records' form and what the Rust answers. The last line is `end` and the count; where the input stops
-// within a record, or one is longer than the buffer, it is `stopped` after a BAD RECORD.
+// Reads packed cases on standard input until it ends and prints the answer of `coding` and `shared` to each, a line for a
+// case. oracle/ has the records' form and what the Rust answers. The last line is `end` and the count; where the input
+// stops within a record, or one is longer than the buffer, it is `stopped` after a BAD RECORD.
 mod kinds; // kinds.rt: the operations of `shared`
 mod leaf; // leaf.rt: the operations of `coding`
-mod line; // line.rt: an answer's text
-mod numbers; // numbers.rt: the operations of `number`
-mod record; // record.rt: a record's fields
 
 use coding::Place;
 use coding::part;
-use coding::put_slice;
 use libc::STDIN_FILENO;
 use libc::STDOUT_FILENO;
-use record::Fields;
-use record::FieldsRead;
+use records::line;
+use records::record;
+use records::record::Feed;
+use records::record::Turn;
 
-// The input that was read and not yet answered: buf's bytes from `from` up to `have`.
-struct Feed {
-    from: usize,
-    have: usize,
-}
-
-// A record's operation, its fields' place and the input after it; or that there is none, or a part of one.
-enum Turn {
-    Record(u8, Place, Feed),
-    End,
-    Cut,
-}
-
-// The record at the start of the input.
-fn find(buf: &[u8], f: Feed) -> Turn {
-    let have = f.have;
-    let from = f.from;
-    let seen = part(
-        buf,
-        Place {
-            start: 0,
-            len: have,
-        },
-    );
-    let coding::U8Read::Num(op, at) = coding::get_u8(seen, from) else {
-        return Turn::End;
-    };
-    let coding::PlaceRead::At(rest, next) = record::bytes(seen, at) else {
-        return Turn::Cut;
-    };
-    Turn::Record(op, rest, Feed { from: next, have })
-}
-
-// Moves what is left to the front of buf, by way of work, and reads on behind it.
-fn fill(buf: &mut [u8], work: &mut [u8], f: Feed) -> Feed {
-    let from = f.from;
-    let have = f.have;
-    if have < from {
-        return f;
-    }
-    let left = put_slice(
-        work,
-        0,
-        part(
-            buf,
-            Place {
-                start: from,
-                len: have - from,
-            },
-        ),
-    );
-    put_slice(
-        buf,
-        0,
-        part(
-            work,
-            Place {
-                start: 0,
-                len: left,
-            },
-        ),
-    );
-    if buf.len() < left {
-        return f;
-    }
-    let more = io::read_full(STDIN_FILENO, &mut buf[left..]);
-    Feed {
-        from: 0,
-        have: left + more,
-    }
-}
-
-// The next record, read where it is not yet whole.
-fn next(buf: &mut [u8], work: &mut [u8], f: Feed) -> Turn {
-    if let Turn::Record(op, rest, after) = find(buf, f) {
-        return Turn::Record(op, rest, after);
-    }
-    let filled = fill(buf, work, f);
-    find(buf, filled)
-}
-
-// The answer of an operation to its fields, put at a place of out. x and y are the record's parts.
-fn answer(
-    op: u8,
-    f: Fields,
-    x: &[u8],
-    y: &[u8],
-    work: &mut [u8],
-    out: &mut [u8],
-    at: usize,
-) -> usize {
-    let a = f.a;
-    let b = f.b;
-    let c = f.c;
+// The answer of an operation to a record's fields, put at a place of out.
+fn answer(op: u8, rec: &[u8], work: &mut [u8], out: &mut [u8], at: usize) -> usize {
+    let a = record::number(rec, 0);
+    let b = record::number(rec, 1);
+    let c = record::number(rec, 2);
+    let x = record::bytes(rec, 0);
+    let y = record::bytes(rec, 1);
     match op {
         1 => leaf::vread(a, x, out, at),
         2 => leaf::vfrom(a, out, at),
@@ -128,51 +39,39 @@ fn answer(
         16 => kinds::sidnew(a, b, c, out, at),
         17 => kinds::sid(a, out, at),
         18 => kinds::ftypes(out, at),
-        39 => numbers::pnnew(a, b, out, at),
-        40 => numbers::pnexp(a, b, c, out, at),
-        41 => numbers::pndec(a, x, out, at),
-        42 => numbers::pnenc(a, b, x, work, out, at),
-        43 => numbers::pnlen(a, out, at),
-        44 => numbers::pntag(a, b, out, at),
-        45 => numbers::ends(x, out, at),
         _ => line::bad(out, at),
     }
 }
 
-// Ends a line, and writes out what stands before it once that is much or there is no more to come.
-fn flush(out: &mut [u8], at: usize, is_last: bool) -> usize {
+// The next record; where it is not yet whole, more is read behind what is left.
+fn next(buf: &mut [u8], work: &mut [u8], f: Feed) -> Turn {
+    let t = record::find(buf, f);
+    if let Turn::Record(_, _, _) = t {
+        return t;
+    }
+    let left = record::to_front(buf, work, f);
+    let more = io::read_full(STDIN_FILENO, &mut buf[left..]);
+    record::find(
+        buf,
+        Feed {
+            from: 0,
+            have: left + more,
+        },
+    )
+}
+
+fn write_out(out: &[u8], len: usize) {
+    io::write_all(STDOUT_FILENO, part(out, Place { start: 0, len }));
+}
+
+// Ends a line, and writes out what stands there once it is much.
+fn end_line(out: &mut [u8], at: usize) -> usize {
     let p = coding::put_u8(out, at, b'\n');
     if p < 100_000 {
-        if !is_last {
-            return p;
-        }
+        return p;
     }
-    io::write_all(STDOUT_FILENO, part(out, Place { start: 0, len: p }));
+    write_out(out, p);
     0
-}
-
-fn asked(op: u8, rec: &[u8], work: &mut [u8], out: &mut [u8], at: usize) -> usize {
-    let FieldsRead::Fields(f) = record::read_fields(rec) else {
-        let p = line::bad(out, at);
-        return flush(out, p, false);
-    };
-    let x = f.x;
-    let y = f.y;
-    let p = answer(op, f, part(rec, x), part(rec, y), work, out, at);
-    flush(out, p, false)
-}
-
-fn ending(t: Turn, out: &mut [u8], at: usize) -> usize {
-    if let Turn::Cut = t {
-        return put_slice(out, at, b"BAD RECORD\nstopped ");
-    }
-    put_slice(out, at, b"end ")
-}
-
-fn last_line(t: Turn, count: u64, out: &mut [u8], at: usize) {
-    let p = ending(t, out, at);
-    let p = line::num(out, p, count);
-    flush(out, p, true);
 }
 
 // More records than any run has: a proved loop ends.
@@ -185,10 +84,13 @@ fn run(buf: &mut [u8], work: &mut [u8], out: &mut [u8]) {
     while count < MOST {
         let t = next(buf, work, f);
         let Turn::Record(op, rest, after) = t else {
-            last_line(t, count, out, at);
+            let p = line::end(out, at, t, count);
+            let p = coding::put_u8(out, p, b'\n');
+            write_out(out, p);
             return;
         };
-        at = asked(op, part(buf, rest), work, out, at);
+        let p = answer(op, part(buf, rest), work, out, at);
+        at = end_line(out, p);
         f = after;
         count += 1;
     }

@@ -6,8 +6,11 @@ mod writing;
 
 pub(crate) use ack::{ackiter, ackscan, ecn};
 pub(crate) use leaf::{ftypes, take};
-pub(crate) use reading::{frames, framesraw};
-pub(crate) use writing::{bounds, fenc};
+pub(crate) use reading::frames;
+pub(crate) use writing::{bounds, fdec, fenc, fsize};
+
+/// The longest payload.
+const LONGEST: usize = 65_527;
 
 /// The paper's number of a refusal, by the source's text.
 fn number(reason: &str) -> u32 {

@@ -1,7 +1,78 @@
-//! Cases: lines around every boundary at random, and all of the short ones.
-mod exhaust;
+//! Cases: lines around every boundary at random, and all of the short ones. Each module has those of one replay program.
+mod frame;
+mod frame_out;
+mod leaf;
 mod number;
-mod random;
+mod packet;
+mod packet_out;
 
-pub use exhaust::exhaust;
-pub use random::random;
+use super::rng::{END, Rng};
+use super::words::hex;
+
+/// An operation, how often it comes up among those of its module, and a random case of it.
+type Made = (&'static str, u64, fn(&mut Rng) -> String);
+
+/// The modules' operations, and how often each module comes up.
+const MADE: [(u64, &[Made]); 6] = [
+    (10, leaf::MADE),
+    (5, number::MADE),
+    (8, packet::MADE),
+    (5, packet_out::MADE),
+    (8, frame::MADE),
+    (6, frame_out::MADE),
+];
+
+/// Hands out every short line.
+pub fn exhaust(emit: &mut dyn FnMut(String)) {
+    leaf::exhaust(emit);
+    number::exhaust(emit);
+    packet::exhaust(emit);
+    packet_out::exhaust(emit);
+    frame::exhaust(emit);
+    frame_out::exhaust(emit);
+}
+
+/// The case of this number, of the operations that are named, by weight, or of any; none where one is no operation.
+pub fn random(seed: u64, case: u64, ops: &[&str]) -> Option<String> {
+    let mut r = Rng::new(seed, case);
+    let all = || MADE.iter().flat_map(|&(weight, made)| made.iter().map(move |made| (weight * made.1, made)));
+    if !ops.iter().all(|op| all().any(|(_, made)| made.0 == *op)) {
+        return None;
+    }
+    let asked = || all().filter(|(_, made)| ops.is_empty() || ops.contains(&made.0));
+    let mut left = r.below(asked().map(|(weight, _)| weight).sum());
+    for (weight, (name, _, make)) in asked() {
+        match left.checked_sub(weight) {
+            Some(less) => left = less,
+            None => return Some(format!("{name} {}", make(&mut r)).trim_end().into()),
+        }
+    }
+    None
+}
+
+/// An integer, or one time in four a number past them all.
+fn around_62(r: &mut Rng) -> u64 {
+    if !r.one_in(4) {
+        return r.integer();
+    }
+    match r.below(3) {
+        0 => END + r.below(3),
+        1 => u64::MAX - r.below(3),
+        _ => r.bits() | END,
+    }
+}
+
+/// Bytes that tell their place.
+fn bytes(n: u64) -> String {
+    hex(&(0..n).map(|i| (0xa0 + i) as u8).collect::<Vec<u8>>())
+}
+
+/// Every number within three of a power of two.
+fn edges() -> Vec<u64> {
+    let mut all: Vec<u64> =
+        (0..64).flat_map(|e| (0..7).map(move |d| (1u64 << e).wrapping_add(d).wrapping_sub(3))).collect();
+    all.extend((0..3).map(|d| u64::MAX - d));
+    all.sort_unstable();
+    all.dedup();
+    all
+}

@@ -11,6 +11,22 @@ pub const U24_FOURTH_BYTE: &str = "u24-fourth-byte";
 pub const NUMBER_TOO_FAR: &str = "number-too-far";
 pub const NUMBER_62: &str = "number-62";
 pub const CUT_RULE: &str = "cut-rule";
+pub const SIZE_65527: &str = "size-65527";
+pub const VERSIONS_16: &str = "versions-16";
+pub const NUMBER_OFFSET: &str = "number-offset";
+pub const FORM_BIT: &str = "form-bit";
+pub const SHORT_OF_HEADER: &str = "short-of-header";
+pub const SHORT_OF_SAMPLE: &str = "short-of-sample";
+pub const HEADER_TESTS: &str = "header-tests";
+pub const LENGTH_16384: &str = "length-16384";
+pub const LENGTH_NO_NUMBER: &str = "length-no-number";
+pub const LAST_TY: &str = "last-ty";
+pub const ACK_ITER_UNSCANNED: &str = "ack-iter-unscanned";
+pub const ECN_LIMIT: &str = "ecn-limit";
+pub const ACK_LIST: &str = "ack-list";
+pub const NCID_OUT: &str = "ncid-out";
+pub const STREAM_END: &str = "stream-end";
+pub const MAX_LEN: &str = "max-len";
 
 /// What document 01 answers, and the difference's name.
 pub struct Decided {

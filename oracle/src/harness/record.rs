@@ -2,9 +2,8 @@
 use super::table::{FRAMES, KINDS, by_code, by_name};
 use super::words::{Args, Bad, hex_into};
 
-/// Every record has so many numbers and parts at least: zeros and empty ones stand where an operation has fewer.
-const NUMBERS: usize = 3;
-const PARTS: usize = 2;
+/// Every record has so many numbers: zeros stand where an operation has fewer. Its parts follow, as many as there are.
+const NUMBERS: usize = 6;
 
 /// The record of a line.
 pub fn pack(line: &str) -> Result<Vec<u8>, Bad> {
@@ -15,8 +14,8 @@ pub fn pack(line: &str) -> Result<Vec<u8>, Bad> {
     if args.more() {
         return Err(Bad);
     }
-    numbers.resize(numbers.len().max(NUMBERS), 0);
-    parts.resize(parts.len().max(PARTS), Vec::new());
+    assert!(numbers.len() <= NUMBERS);
+    numbers.resize(NUMBERS, 0);
     let mut rest: Vec<u8> = numbers.iter().flat_map(|x| x.to_be_bytes()).collect();
     for part in &parts {
         put_bytes(&mut rest, part)?;
@@ -37,7 +36,9 @@ fn fields_of(fields: &str, args: &mut Args, numbers: &mut Vec<u64>, parts: &mut 
                 let (word, kinds) = (args.word()?, kinds(field));
                 let at = kinds.iter().position(|kind| kind.0 == word).ok_or(Bad)?;
                 numbers.push(at as u64);
-                fields_of(kinds[at].1, args, numbers, parts)?;
+                if field != 'k' {
+                    fields_of(kinds[at].1, args, numbers, parts)?;
+                }
             }
         }
     }
@@ -55,7 +56,7 @@ fn put_bytes(out: &mut Vec<u8>, bytes: &[u8]) -> Result<(), Bad> {
 
 fn kinds(field: char) -> &'static [(&'static str, &'static str)] {
     match field {
-        'K' => &KINDS,
+        'K' | 'k' => &KINDS,
         'F' => &FRAMES,
         _ => panic!("no field {field:?}"),
     }
@@ -65,7 +66,7 @@ fn kinds(field: char) -> &'static [(&'static str, &'static str)] {
 pub fn unpack(records: &[u8]) -> Result<(String, &[u8]), Bad> {
     let (&code, mut after) = records.split_first().ok_or(Bad)?;
     let op = by_code(code).ok_or(Bad)?;
-    let mut fields = Fields { rest: take_bytes(&mut after)?, numbers: 0, parts: 0 };
+    let mut fields = Fields { rest: take_bytes(&mut after)?, numbers: 0 };
     let mut line = String::from(op.name);
     fields.put(op.fields, &mut line)?;
     fields.no_more()?;
@@ -76,7 +77,6 @@ pub fn unpack(records: &[u8]) -> Result<(String, &[u8]), Bad> {
 struct Fields<'a> {
     rest: &'a [u8],
     numbers: usize,
-    parts: usize,
 }
 
 impl Fields<'_> {
@@ -92,7 +92,9 @@ impl Fields<'_> {
                     let at = usize::try_from(self.number()?).map_err(|_| Bad)?;
                     let (name, fields) = kinds(field).get(at).ok_or(Bad)?;
                     line.push_str(name);
-                    self.put(fields, line)?;
+                    if field != 'k' {
+                        self.put(fields, line)?;
+                    }
                 }
             }
         }
@@ -106,7 +108,6 @@ impl Fields<'_> {
 
     fn part(&mut self) -> Result<&[u8], Bad> {
         self.no_more_numbers()?;
-        self.parts += 1;
         take_bytes(&mut self.rest)
     }
 
@@ -121,11 +122,6 @@ impl Fields<'_> {
 
     fn no_more(&mut self) -> Result<(), Bad> {
         self.no_more_numbers()?;
-        while self.parts < PARTS {
-            if !self.part()?.is_empty() {
-                return Err(Bad);
-            }
-        }
         if self.rest.is_empty() { Ok(()) } else { Err(Bad) }
     }
 }

@@ -66,6 +66,11 @@ impl Rng {
     /// An integer in one of the forms that hold it, mostly the shortest.
     pub fn integer_form(&mut self) -> Vec<u8> {
         let x = self.integer();
+        self.form(x)
+    }
+
+    /// This integer in one of the forms that hold it, mostly the shortest.
+    pub fn form(&mut self, x: u64) -> Vec<u8> {
         let least = [1 << 6, 1 << 14, 1 << 30].iter().filter(|&&end| x >= end).count() as u64;
         let tag = if self.one_in(4) { least + self.below(4 - least) } else { least };
         let n = 1 << tag;

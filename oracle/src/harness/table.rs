@@ -6,11 +6,12 @@ use crate::{frame, packet, shared};
 pub type Run = fn(&mut Args, &mut String) -> Result<(), Bad>;
 
 /// The fields of a line, a letter each, all numbers before all bytes. In a record they stand in the same order, as a
-/// number (8 bytes, most significant first) or as bytes (a length of 3 bytes, then the bytes), and are filled up to three
-/// numbers and two parts:
+/// number (8 bytes, most significant first) or as bytes (a length of 3 bytes, then the bytes); the numbers are filled up to
+/// six with zeros:
 /// - `n` a number, `b` bytes;
 /// - `v` numbers of 4 bytes, `r` numbers of 8 bytes: bytes;
-/// - `K` a kind of header, `F` a kind of frame: the number of its place in the list, then its own fields.
+/// - `K` a kind of header, `F` a kind of frame: the number of its place in the list, then its own fields;
+/// - `k` a kind of header alone.
 pub struct Op {
     pub code: u8,
     pub name: &'static str,
@@ -22,7 +23,7 @@ const fn op(code: u8, name: &'static str, fields: &'static str, run: Run) -> Op 
     Op { code, name, fields, run }
 }
 
-pub const OPS: [Op; 39] = [
+pub const OPS: [Op; 42] = [
     // varint.rs, coding.rs
     op(1, "vread", "nb", leaf::vread),
     op(2, "vfrom", "n", leaf::vfrom),
@@ -46,10 +47,9 @@ pub const OPS: [Op; 39] = [
     // packet.rs
     op(32, "split", "nnvb", packet::probe::split),
     op(33, "walk", "nnvb", packet::probe::walk),
-    op(34, "finish", "nnvbb", packet::probe::finish),
-    op(35, "unmask", "nbb", packet::probe::unmask),
-    op(36, "henc", "K", packet::probe::henc),
-    op(37, "hfin", "nnnbbb", packet::probe::hfin),
+    op(34, "finish", "knbb", packet::probe::finish),
+    op(36, "henc", "Kb", packet::probe::henc),
+    op(37, "hlen", "nnnnb", packet::probe::hlen),
     op(38, "whole", "Kbbb", packet::probe::whole),
     op(39, "pnnew", "nn", packet::probe::pnnew),
     op(40, "pnexp", "nnn", packet::probe::pnexp),
@@ -58,28 +58,32 @@ pub const OPS: [Op; 39] = [
     op(43, "pnlen", "n", packet::probe::pnlen),
     op(44, "pntag", "nn", packet::probe::pntag),
     op(45, "ends", "b", packet::probe::ends),
+    op(46, "decode", "nnvb", packet::probe::decode),
+    op(47, "sample", "knb", packet::probe::sample),
+    op(48, "hmask", "nnnnbb", packet::probe::hmask),
     // frame.rs
     op(64, "frames", "b", frame::probe::frames),
-    op(65, "framesraw", "b", frame::probe::framesraw),
-    op(66, "ackscan", "nnb", frame::probe::ackscan),
+    op(66, "ackscan", "nnnb", frame::probe::ackscan),
     op(67, "ackiter", "nb", frame::probe::ackiter),
-    op(68, "fenc", "F", frame::probe::fenc),
+    op(68, "fenc", "Fb", frame::probe::fenc),
     op(69, "ecn", "nnnn", frame::probe::ecn),
     op(70, "bounds", "", frame::probe::bounds),
+    op(71, "fdec", "nnb", frame::probe::fdec),
+    op(72, "fsize", "nb", frame::probe::fsize),
 ];
 
 /// Kinds of header, with their fields.
 pub const KINDS: [(&str, &str); 6] = [
-    ("initial", "nbbbb"),
-    ("0rtt", "nbbb"),
-    ("handshake", "nbbb"),
+    ("initial", "nnnbbb"),
+    ("0rtt", "nnnbb"),
+    ("handshake", "nnnbb"),
     ("retry", "nbb"),
-    ("short", "nnbb"),
+    ("short", "nnnnb"),
     ("vneg", "nbb"),
 ];
 
-/// Kinds of frame that have an encoder, with their fields.
-pub const FRAMES: [(&str, &str); 11] = [
+/// What has an encoder, with its fields.
+pub const FRAMES: [(&str, &str); 15] = [
     ("reset", "nnn"),
     ("stop", "nn"),
     ("crypto", "nb"),
@@ -88,9 +92,13 @@ pub const FRAMES: [(&str, &str); 11] = [
     ("newcid", "nnbb"),
     ("datagram", "nb"),
     ("ackfreq", "nnnn"),
-    ("close", "nnrb"),
-    ("appclose", "nnb"),
+    ("close", "nnnrb"),
+    ("appclose", "nnnb"),
     ("ack", "nrr"),
+    ("counts", "nnn"),
+    ("type", "n"),
+    ("id", "n"),
+    ("code", "n"),
 ];
 
 pub fn by_name(name: &str) -> Option<&'static Op> {

@@ -6,5 +6,5 @@ mod writing;
 
 pub(crate) use ends::ends;
 pub(crate) use number::{pndec, pnenc, pnexp, pnlen, pnnew, pntag};
-pub(crate) use reading::{finish, split, unmask, walk};
-pub(crate) use writing::{henc, hfin, whole};
+pub(crate) use reading::{decode, finish, sample, split, walk};
+pub(crate) use writing::{henc, hlen, hmask, whole};

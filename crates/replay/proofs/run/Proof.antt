@@ -22,8 +22,14 @@ next-requires c κs = search needs
 enum-known-t : tie.Need-enum-known-t Inv-loop μ-loop
 enum-known-t c = search needs
 
-last-line-requires : tie.Need-last-line-requires Inv-loop μ-loop
-last-line-requires c κs = search needs
+end-requires : tie.Need-end-requires Inv-loop μ-loop
+end-requires c κs = search needs
+
+put-u8-requires : tie.Need-put-u8-requires Inv-loop μ-loop
+put-u8-requires c κs = search needs
+
+write-out-requires : tie.Need-write-out-requires Inv-loop μ-loop
+write-out-requires c κs = search needs
 
 same-length : tie.Need-same-length Inv-loop μ-loop
 same-length c = search needs
@@ -40,8 +46,11 @@ returns c = search needs
 part-requires : tie.Need-part-requires Inv-loop μ-loop
 part-requires c κs = search needs
 
-asked-requires : tie.Need-asked-requires Inv-loop μ-loop
-asked-requires c κs = search needs
+answer-requires : tie.Need-answer-requires Inv-loop μ-loop
+answer-requires c κs = search needs
+
+end-line-requires : tie.Need-end-line-requires Inv-loop μ-loop
+end-line-requires c κs = search needs
 
 add-count : tie.Need-add-count Inv-loop μ-loop
 add-count c = search needs
@@ -73,13 +82,16 @@ run-spec =
     loop-holds
     next-requires
     enum-known-t
-    last-line-requires
+    end-requires
+    put-u8-requires
+    write-out-requires
     same-length
     same-length-2
     same-length-3
     returns
     part-requires
-    asked-requires
+    answer-requires
+    end-line-requires
     add-count
     loop-less
     loop-again

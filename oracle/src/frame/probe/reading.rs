@@ -1,45 +1,51 @@
 //! Iter: the walk over a payload.
 use super::super::*;
-use super::number;
+use super::ack::{ranges, shown};
+use super::{LONGEST, number};
+use crate::harness::differences::{LAST_TY, SIZE_65527, decided, settle};
 use crate::harness::words::{Args, Bad};
 
-/// frames B -> no 13 | ok ; START SIZE NAME values.. ; .. [; START no N TYPE|-]
-/// A place is START LEN within the payload.
+/// frames B: each frame's start, size, type as it was read, Frame::ty, is_ack_eliciting, name and values. A place is START LEN
+/// within the payload.
 pub(crate) fn frames(a: &mut Args, out: &mut String) -> Result<(), Bad> {
-    walk(&a.bytes()?.into(), out, false);
+    let payload: Bytes = a.bytes()?.into();
+    let paper = if payload.len() > LONGEST { decided(SIZE_65527, "no 14".into()) } else { None };
+    settle(out, paper, || walk(&payload));
     Ok(())
 }
 
-/// framesraw B: the same, but a refusal's type is last_ty as it stands, also where the type itself is cut
-pub(crate) fn framesraw(a: &mut Args, out: &mut String) -> Result<(), Bad> {
-    walk(&a.bytes()?.into(), out, true);
-    Ok(())
-}
-
-fn walk(payload: &Bytes, out: &mut String, raw: bool) {
+fn walk(payload: &Bytes) -> String {
     let Ok(mut it) = Iter::new(payload.clone()) else {
-        out.push_str("no 13");
-        return;
+        return "no 13".into();
     };
-    out.push_str("ok");
+    let mut line = String::from("ok");
     loop {
         let start = payload.len() - it.bytes.len();
         let Some((frame, size)) = it.next_with_size() else {
-            return;
+            return line;
         };
+        line += &format!(" ; {start} {size} ");
         match frame {
             Ok(frame) => {
-                let shown = Shown { payload, end: start + size }.frame(&frame);
-                *out += &format!(" ; {start} {size} {shown}");
+                let read = it.last_ty.unwrap();
+                let (ty, elicits) = (frame.ty().0, u8::from(frame.is_ack_eliciting()));
+                let shown = Shown { payload, read, end: start + size }.frame(&frame);
+                line += &format!("{} {ty} {elicits} {shown}", read.0);
             }
             Err(e) => {
-                let cut = (&mut &payload[start..]).get_var().is_err();
-                let ty = e.ty.filter(|_| raw || !cut);
-                *out += &format!(" ; {start} no {} {}", number(e.reason), word(ty));
-                assert_eq!(size, payload.len() - start);
+                line += &refused(&e, &payload[start..]);
                 assert!(it.next().is_none());
             }
         }
+    }
+}
+
+/// A refusal, with its type once read; marked where the type is cut and the Rust has the earlier frame's.
+fn refused(e: &InvalidFrame, mut left: &[u8]) -> String {
+    let no = number(e.reason);
+    match (left.get_var(), e.ty) {
+        (Err(_), Some(_)) => format!("no {no} - # {LAST_TY}"),
+        (_, ty) => format!("no {no} {}", word(ty)),
     }
 }
 
@@ -47,9 +53,10 @@ fn word(ty: Option<FrameType>) -> String {
     ty.map_or("-".into(), |ty| ty.0.to_string())
 }
 
-/// A frame that ends at `end`.
+/// A frame whose type was read as `read` and that ends at `end`.
 struct Shown<'a> {
     payload: &'a Bytes,
+    read: FrameType,
     end: usize,
 }
 
@@ -79,7 +86,8 @@ impl Shown<'_> {
             Frame::Crypto(x) => format!("crypto {} {}", x.offset, self.last(&x.data)),
             Frame::NewToken(x) => format!("token {}", self.last(&x.token)),
             Frame::Stream(x) => {
-                format!("stream {} {} {} {}", x.id.0, x.offset, u8::from(x.fin), self.last(&x.data))
+                let (fin, len) = (u8::from(x.fin), u8::from(self.read.stream().unwrap().len()));
+                format!("stream {} {} {fin} {len} {}", x.id.0, x.offset, self.last(&x.data))
             }
             Frame::MaxData(x) => format!("maxdata {x}"),
             Frame::MaxStreamData { id, offset } => format!("maxstreamdata {} {offset}", id.0),
@@ -100,7 +108,9 @@ impl Shown<'_> {
             Frame::Close(Close::Application(x)) => {
                 format!("appclose {} {}", x.error_code.0, self.last(&x.reason))
             }
-            Frame::Datagram(x) => format!("datagram {}", self.last(&x.data)),
+            Frame::Datagram(x) => {
+                format!("datagram {} {}", u8::from(self.read.datagram().unwrap().len()), self.last(&x.data))
+            }
             Frame::AckFrequency(x) => format!(
                 "ackfreq {} {} {} {}",
                 x.sequence, x.ack_eliciting_threshold, x.request_max_ack_delay, x.reordering_threshold
@@ -111,14 +121,8 @@ impl Shown<'_> {
     }
 
     fn ack(&self, x: &Ack) -> String {
-        let mut shown = format!("ack {} {} {}", x.largest, x.delay, self.place(&x.additional, 0));
-        if let Some(e) = x.ecn {
-            shown += &format!(" ecn {} {} {}", e.ect0, e.ect1, e.ce);
-        }
-        for r in x.iter() {
-            shown += &format!(" {}-{}", r.start(), r.end());
-        }
-        shown
+        let counts = x.ecn.map_or("-".into(), shown);
+        format!("ack {} {} {} {counts}{}", x.largest, x.delay, self.place(&x.additional, 0), ranges(x.iter()))
     }
 
     /// The CID and the token are copies; they are the frame's last bytes.
@@ -127,6 +131,6 @@ impl Shown<'_> {
         let cid = token - x.id.len();
         assert_eq!(self.payload[cid..token], x.id[..]);
         assert_eq!(self.payload[token..self.end], x.reset_token[..]);
-        format!("newcid {} {} {cid} {} {token}", x.sequence, x.retire_prior_to, x.id.len())
+        format!("newcid {} {} {cid} {} {token} 16", x.sequence, x.retire_prior_to, x.id.len())
     }
 }

@@ -1,113 +1,278 @@
-//! The encoders.
+//! The encoders, the codecs beside them, the sizes.
 use super::super::*;
+use crate::TransportErrorCode;
+use crate::coding::Codec;
+use crate::harness::differences::{
+    ACK_LIST, CID_OVER_20, Decided, MAX_LEN, NCID_OUT, SIZE_65527, STREAM_END, VARINT_62, decided, settle,
+};
+use crate::harness::leaf::{cursor, no_room, written};
 use crate::harness::words::{Args, Bad, hex};
 
-/// fenc NAME values (table.rs) -> ok B
-pub(crate) fn fenc(a: &mut Args, out: &mut String) -> Result<(), Bad> {
-    let mut w = Vec::new();
-    match a.word()? {
-        "reset" => reset(a)?.encode(&mut w),
-        "stop" => StopSending { id: StreamId(a.num()?), error_code: var(a)? }.encode(&mut w),
-        "crypto" => Crypto { offset: a.num()?, data: a.bytes()?.into() }.encode(&mut w),
-        "token" => {
-            let token = NewToken { token: a.bytes()?.into() };
-            token.encode(&mut w);
-            assert_eq!(token.size(), w.len());
-        }
-        "stream" => {
-            let (id, offsets) = (StreamId(a.num()?), a.num()?..a.num()?);
-            StreamMeta { id, offsets, fin: a.flag()? }.encode(a.flag()?, &mut w)
-        }
-        "newcid" => newcid(a)?.encode(&mut w),
-        "datagram" => {
-            let (length, data) = (a.flag()?, a.bytes()?.into());
-            let datagram = Datagram { data };
-            datagram.encode(length, &mut w);
-            assert_eq!(datagram.size(length), w.len());
-        }
-        "ackfreq" => ackfreq(a)?.encode(&mut w),
-        "close" => close(a, &mut w)?,
-        "appclose" => {
-            let (error_code, max_len, reason) = (var(a)?, a.num()? as usize, a.bytes()?.into());
-            ApplicationClose { error_code, reason }.encode(&mut w, max_len)
-        }
-        "ack" => ack(a, &mut w)?,
-        _ => return Err(Bad),
+const END: u64 = 1 << 62;
+const MAX_DATAGRAM: usize = 65_527;
+
+/// Writes into any output.
+type Writer = dyn Fn(&mut dyn BufMut);
+
+/// What is written; and the difference's name where document 01 refuses the arguments with 14.
+struct Encoder {
+    write: Box<Writer>,
+    outside: Option<&'static str>,
+}
+
+impl Encoder {
+    fn new(outside: Option<&'static str>, write: impl Fn(&mut dyn BufMut) + 'static) -> Self {
+        Self { write: Box::new(write), outside }
     }
-    *out += &format!("ok {}", hex(&w));
+
+    /// What is written where there is room.
+    fn whole(&self) -> Vec<u8> {
+        let mut w = Vec::new();
+        (self.write)(&mut w);
+        w
+    }
+
+    /// What document 01 decides: 14 for the arguments or for a frame too long, 15 for a buffer too short.
+    fn paper(&self, lent: &[u8]) -> Option<Decided> {
+        if let Some(name) = self.outside {
+            return decided(name, format!("no 14 {}", hex(lent)));
+        }
+        if self.whole().len() > MAX_DATAGRAM {
+            return decided(SIZE_65527, format!("no 14 {}", hex(lent)));
+        }
+        no_room(lent, &*self.write)
+    }
+}
+
+/// fenc NAME values (table.rs) B
+pub(crate) fn fenc(a: &mut Args, out: &mut String) -> Result<(), Bad> {
+    let encoder = encoder(a)?;
+    let lent = a.bytes()?;
+    settle(out, encoder.paper(&lent), || written(&lent, &*encoder.write));
     Ok(())
 }
 
-/// Panics from 2^62 on, as the Rust does wherever it makes one of a number.
-fn var(a: &mut Args) -> Result<VarInt, Bad> {
-    Ok(VarInt::from_u64(a.num()?).unwrap())
-}
-
-fn reset(a: &mut Args) -> Result<ResetStream, Bad> {
-    Ok(ResetStream { id: StreamId(a.num()?), error_code: var(a)?, final_offset: var(a)? })
-}
-
-fn newcid(a: &mut Args) -> Result<NewConnectionId, Bad> {
-    let (sequence, retire_prior_to, id) = (a.num()?, a.num()?, ConnectionId::new(&a.bytes()?));
-    let token: [u8; RESET_TOKEN_SIZE] = a.array()?;
-    Ok(NewConnectionId { sequence, retire_prior_to, id, reset_token: token.into() })
-}
-
-fn ackfreq(a: &mut Args) -> Result<AckFrequency, Bad> {
-    Ok(AckFrequency {
-        sequence: var(a)?,
-        ack_eliciting_threshold: var(a)?,
-        request_max_ack_delay: var(a)?,
-        reordering_threshold: var(a)?,
+fn encoder(a: &mut Args) -> Result<Encoder, Bad> {
+    Ok(match a.word()? {
+        "reset" => reset(a.num()?, a.num()?, a.num()?),
+        "stop" => stop(a.num()?, a.num()?),
+        "crypto" => crypto(a.num()?, a.bytes()?.into()),
+        "token" => token(a.bytes()?.into()),
+        "stream" => stream(a)?,
+        "newcid" => newcid(a)?,
+        "datagram" => datagram(a.flag()?, a.bytes()?.into()),
+        "ackfreq" => ackfreq([a.num()?, a.num()?, a.num()?, a.num()?]),
+        "close" => close(a)?,
+        "appclose" => appclose(a.flag()?, a.num()?, a.num()? as usize, a.bytes()?.into()),
+        "ack" => ack(a)?,
+        "counts" => counts([a.num()?, a.num()?, a.num()?]),
+        "type" => type_alone(a.num()?),
+        "id" => id_alone(a.num()?),
+        "code" => code_alone(a.num()?),
+        _ => return Err(Bad),
     })
 }
 
-/// CODE MAXLEN TYPE|- REASON
-fn close(a: &mut Args, w: &mut Vec<u8>) -> Result<(), Bad> {
-    let mut code = Vec::new();
-    code.write_var(a.num()?); // a code is made by reading it
-    let error_code = (&mut &code[..]).get().map_err(|_| Bad)?;
-    let max_len = a.num()? as usize;
+/// Each integer is below 2^62.
+fn integers(xs: &[u64]) -> Option<&'static str> {
+    xs.iter().any(|&x| x >= END).then_some(VARINT_62)
+}
+
+/// Panics from 2^62 on, as the Rust does wherever it makes one of a number.
+fn var(x: u64) -> VarInt {
+    VarInt::from_u64(x).unwrap()
+}
+
+/// The bytes of an integer; 8 from 2^62 on.
+fn size(x: u64) -> usize {
+    VarInt::from_u64(x).map_or(8, VarInt::size)
+}
+
+fn reset(id: u64, code: u64, end: u64) -> Encoder {
+    Encoder::new(integers(&[id, code, end]), move |mut w| {
+        ResetStream { id: StreamId(id), error_code: var(code), final_offset: var(end) }.encode(&mut w)
+    })
+}
+
+fn stop(id: u64, code: u64) -> Encoder {
+    Encoder::new(integers(&[id, code]), move |mut w| {
+        StopSending { id: StreamId(id), error_code: var(code) }.encode(&mut w)
+    })
+}
+
+fn crypto(offset: u64, data: Bytes) -> Encoder {
+    Encoder::new(integers(&[offset]), move |mut w| Crypto { offset, data: data.clone() }.encode(&mut w))
+}
+
+fn token(token: Bytes) -> Encoder {
+    Encoder::new(None, move |mut w| NewToken { token: token.clone() }.encode(&mut w))
+}
+
+/// ID START END FIN LENGTH
+fn stream(a: &mut Args) -> Result<Encoder, Bad> {
+    let (id, start, end, fin, length) = (a.num()?, a.num()?, a.num()?, a.flag()?, a.flag()?);
+    let outside = if end < start || end >= END { Some(STREAM_END) } else { integers(&[id]) };
+    Ok(Encoder::new(outside, move |mut w| {
+        StreamMeta { id: StreamId(id), offsets: start..end, fin }.encode(length, &mut w)
+    }))
+}
+
+/// SEQUENCE RETIRE CID TOKEN
+fn newcid(a: &mut Args) -> Result<Encoder, Bad> {
+    let (sequence, retire_prior_to, id) = (a.num()?, a.num()?, a.bytes()?);
+    let token: [u8; RESET_TOKEN_SIZE] = a.array()?;
+    let outside = match id.len() {
+        0 => Some(NCID_OUT),
+        _ if retire_prior_to > sequence => Some(NCID_OUT),
+        1..=MAX_CID_SIZE => integers(&[sequence]),
+        _ => Some(CID_OVER_20),
+    };
+    Ok(Encoder::new(outside, move |mut w| {
+        let id = ConnectionId::new(&id);
+        NewConnectionId { sequence, retire_prior_to, id, reset_token: token.into() }.encode(&mut w)
+    }))
+}
+
+/// The source writes it into a Vec.
+fn datagram(length: bool, data: Bytes) -> Encoder {
+    Encoder::new(None, move |w| {
+        let mut whole = Vec::new();
+        Datagram { data: data.clone() }.encode(length, &mut whole);
+        w.put_slice(&whole)
+    })
+}
+
+fn ackfreq(values: [u64; 4]) -> Encoder {
+    Encoder::new(integers(&values), move |mut w| {
+        let [sequence, threshold, delay, reordering] = values.map(var);
+        AckFrequency {
+            sequence,
+            ack_eliciting_threshold: threshold,
+            request_max_ack_delay: delay,
+            reordering_threshold: reordering,
+        }
+        .encode(&mut w)
+    })
+}
+
+/// A code is made by reading it; panics from 2^62 on, where it cannot be read.
+fn code(x: u64) -> TransportErrorCode {
+    let mut b = Vec::new();
+    b.write_var(x);
+    TransportErrorCode::decode(&mut &b[..]).unwrap()
+}
+
+/// VIA CODE MAXLEN TYPE|- REASON; VIA is 1 through Close
+fn close(a: &mut Args) -> Result<Encoder, Bad> {
+    let (via, x, max_len) = (a.flag()?, a.num()?, a.num()? as usize);
     let frame_type = match a.list()?[..] {
         [] => None,
         [ty] => Some(FrameType(ty)),
         _ => return Err(Bad),
     };
-    ConnectionClose { error_code, frame_type, reason: a.bytes()?.into() }.encode(w, max_len);
-    Ok(())
+    let reason: Bytes = a.bytes()?.into();
+    let ty = frame_type.map_or(0, |ty| ty.0);
+    let fixed = 3 + size(ty) + size(reason.len() as u64);
+    let outside = integers(&[x, ty]).or((max_len < fixed).then_some(MAX_LEN));
+    Ok(Encoder::new(outside, move |mut w| {
+        let close = ConnectionClose { error_code: code(x), frame_type, reason: reason.clone() };
+        if via { Close::from(close).encode(&mut w, max_len) } else { close.encode(&mut w, max_len) }
+    }))
 }
 
-/// DELAY ECT0,ECT1,CE|- START,END,START,END,.. (ascending, end exclusive; the set would merge what touches)
-fn ack(a: &mut Args, w: &mut Vec<u8>) -> Result<(), Bad> {
+fn appclose(via: bool, x: u64, max_len: usize, reason: Bytes) -> Encoder {
+    let fixed = 1 + size(x) + size(reason.len() as u64);
+    let outside = integers(&[x]).or((max_len < fixed).then_some(MAX_LEN));
+    Encoder::new(outside, move |mut w| {
+        let close = ApplicationClose { error_code: var(x), reason: reason.clone() };
+        if via { Close::from(close).encode(&mut w, max_len) } else { close.encode(&mut w, max_len) }
+    })
+}
+
+/// DELAY ECT0,ECT1,CE|- START,END,START,END,..|-
+fn ack(a: &mut Args) -> Result<Encoder, Bad> {
     let (delay, counts, ends) = (a.num()?, a.list()?, a.list()?);
     let ecn = match counts[..] {
         [] => None,
         [ect0, ect1, ce] => Some(EcnCounts { ect0, ect1, ce }),
         _ => return Err(Bad),
     };
+    let outside = if is_list(&ends) { integers(&[&[delay], &counts[..]].concat()) } else { Some(ACK_LIST) };
+    Ok(Encoder::new(outside, move |mut w| Ack::encode(delay, &set_of(&ends), ecn.as_ref(), &mut w)))
+}
+
+/// Pairs that ascend strictly, at most up to 2^62.
+fn is_list(ends: &[u64]) -> bool {
+    ends.len().is_multiple_of(2) && ends.is_sorted_by(|a, b| a < b) && ends.last().is_some_and(|&end| end <= END)
+}
+
+/// The Rust's set of the ranges, which drops empty ones, merges those that touch and sorts them; a start with no end is left out.
+fn set_of(ends: &[u64]) -> ArrayRangeSet {
     let mut set = ArrayRangeSet::new();
-    for pair in ends.chunks(2) {
-        let &[start, end] = pair else { return Err(Bad) };
-        set.insert(start..end);
+    for pair in ends.chunks_exact(2) {
+        set.insert(pair[0]..pair[1]);
     }
-    assert_eq!(set.len(), ends.len() / 2, "the ranges touch, overlap or are empty");
-    Ack::encode(delay, &set, ecn.as_ref(), w);
+    set
+}
+
+fn counts(values: [u64; 3]) -> Encoder {
+    let [ect0, ect1, ce] = values;
+    Encoder::new(integers(&values), move |mut w| EcnCounts { ect0, ect1, ce }.encode(&mut w))
+}
+
+fn type_alone(x: u64) -> Encoder {
+    Encoder::new(integers(&[x]), move |mut w| FrameType(x).encode(&mut w))
+}
+
+fn id_alone(x: u64) -> Encoder {
+    Encoder::new(integers(&[x]), move |mut w| StreamId(x).encode(&mut w))
+}
+
+fn code_alone(x: u64) -> Encoder {
+    Encoder::new(integers(&[x]), move |mut w| code(x).encode(&mut w))
+}
+
+/// fdec WHAT AT B: a frame type (0), a stream id (1), an error code (2)
+pub(crate) fn fdec(a: &mut Args, out: &mut String) -> Result<(), Bad> {
+    let (what, at, b) = (a.below(3)?, a.num()?, a.bytes()?);
+    let mut r = cursor(&b, at);
+    let value = match what {
+        0 => FrameType::decode(&mut r).map(|ty| ty.0),
+        1 => StreamId::decode(&mut r).map(|id| id.0),
+        _ => TransportErrorCode::decode(&mut r).map(u64::from),
+    };
+    match value {
+        Ok(x) => *out += &format!("ok {x} {}", r.position()),
+        Err(_) => out.push_str("no 10"),
+    }
     Ok(())
 }
 
-/// bounds: the SIZE_BOUNDs of the source, by name
+/// fsize WHAT B: NEW_TOKEN (0), DATAGRAM without its length (1), with it (2)
+pub(crate) fn fsize(a: &mut Args, out: &mut String) -> Result<(), Bad> {
+    let (what, b) = (a.below(3)?, Bytes::from(a.bytes()?));
+    let n = match what {
+        0 => NewToken { token: b }.size(),
+        1 => Datagram { data: b }.size(false),
+        _ => Datagram { data: b }.size(true),
+    };
+    let paper = if n <= MAX_DATAGRAM { None } else { decided(SIZE_65527, "no 14".into()) };
+    settle(out, paper, || format!("ok {n}"));
+    Ok(())
+}
+
+/// bounds: the SIZE_BOUNDs of the frames that have an encoder
 pub(crate) fn bounds(_: &mut Args, out: &mut String) -> Result<(), Bad> {
     let bounds = [
-        ("close", ConnectionClose::SIZE_BOUND),
-        ("appclose", ApplicationClose::SIZE_BOUND),
-        ("stream", Stream::SIZE_BOUND),
-        ("crypto", Crypto::SIZE_BOUND),
-        ("reset", ResetStream::SIZE_BOUND),
-        ("stop", StopSending::SIZE_BOUND),
-        ("newcid", NewConnectionId::SIZE_BOUND),
-        ("retirecid", RETIRE_CONNECTION_ID_SIZE_BOUND),
-        ("datagram", Datagram::SIZE_BOUND),
+        ConnectionClose::SIZE_BOUND,
+        ApplicationClose::SIZE_BOUND,
+        Stream::SIZE_BOUND,
+        Crypto::SIZE_BOUND,
+        ResetStream::SIZE_BOUND,
+        StopSending::SIZE_BOUND,
+        NewConnectionId::SIZE_BOUND,
+        Datagram::SIZE_BOUND,
     ];
-    *out += &bounds.map(|(name, bound)| format!("{name} {bound}")).join(" ");
+    *out += &bounds.map(|bound| bound.to_string()).join(" ");
     Ok(())
 }

@@ -1,8 +1,17 @@
 //! Cases of packet numbers and of the two number ends.
 use super::super::rng::{END, Rng};
 use super::super::words::hex;
-use super::exhaust::{bytes, edges};
-use super::random::around_62;
+use super::{Made, around_62, bytes, edges};
+
+pub const MADE: &[Made] = &[
+    ("pnnew", 12, pnnew),
+    ("pnexp", 14, pnexp),
+    ("pndec", 4, pndec),
+    ("pnenc", 7, pnenc),
+    ("pnlen", 1, |r| r.below(256).to_string()),
+    ("pntag", 4, pntag),
+    ("ends", 3, ends),
+];
 
 /// The distances from which on a number takes more bytes, or is too far.
 const DISTANCES: [u64; 6] = [0, 1, 1 << 7, 1 << 15, 1 << 23, 1 << 31];
@@ -42,7 +51,7 @@ fn cut(r: &mut Rng) -> (u64, u64) {
     (k, value.min(u64::from(u32::MAX)))
 }
 
-pub fn pnnew(r: &mut Rng) -> String {
+fn pnnew(r: &mut Rng) -> String {
     let d = distance(r);
     let (n, acked) = match r.below(10) {
         0 => (around_62(r), around_62(r)),
@@ -62,7 +71,7 @@ pub fn pnnew(r: &mut Rng) -> String {
     format!("{n} {acked}")
 }
 
-pub fn pnexp(r: &mut Rng) -> String {
+fn pnexp(r: &mut Rng) -> String {
     let (k, value) = cut(r);
     let w = window(k);
     let near = if r.one_in(3) { r.below(4 * w) } else { full(r) };
@@ -77,11 +86,11 @@ pub fn pnexp(r: &mut Rng) -> String {
     format!("{k} {value} {expected}")
 }
 
-pub fn pndec(r: &mut Rng) -> String {
+fn pndec(r: &mut Rng) -> String {
     format!("{} {}", cut_length(r), hex(&r.bytes(4)))
 }
 
-pub fn pnenc(r: &mut Rng) -> String {
+fn pnenc(r: &mut Rng) -> String {
     let (k, value) = cut(r);
     let room = match r.below(3) {
         0 => r.below(k.clamp(1, 4)) as usize,
@@ -90,7 +99,7 @@ pub fn pnenc(r: &mut Rng) -> String {
     format!("{k} {value} {}", hex(&r.bytes(room)))
 }
 
-pub fn pntag(r: &mut Rng) -> String {
+fn pntag(r: &mut Rng) -> String {
     let (k, value) = cut(r);
     format!("{k} {value}")
 }
@@ -118,7 +127,7 @@ fn packed(steps: &[Step]) -> String {
 
 /// A run: about as many steps of each call, with numbers around those that the calls before can have used; in every other
 /// run the record is set as well, far on, at the end of all numbers, or as no calls can have made it.
-pub fn ends(r: &mut Rng) -> String {
+fn ends(r: &mut Rng) -> String {
     let sets = r.one_in(2);
     let (mut next, mut largest) = (0u64, 0u64); // roughly where the run stands
     let mut steps = Vec::new();

@@ -14,14 +14,6 @@ pub(super) fn raw(n: PacketNumber) -> u32 {
     }
 }
 
-/// A cut number from its bytes, 1 to 4 of them.
-pub(super) fn cut(bytes: &[u8]) -> Result<PacketNumber, Bad> {
-    if bytes.is_empty() || bytes.len() > 4 {
-        return Err(Bad);
-    }
-    PacketNumber::decode(bytes.len(), &mut &bytes[..]).map_err(|_| Bad)
-}
-
 /// What a cut number writes: its length, and the bytes as a number.
 pub(super) fn sent(p: PacketNumber) -> (usize, u32) {
     let mut w = Vec::new();
@@ -48,7 +40,7 @@ pub(super) fn held(k: u64, value: u32) -> PacketNumber {
 }
 
 /// Document 01's answer to a cut number outside its rule.
-fn outside(k: u64, value: u32, answer: String) -> Option<Decided> {
+pub(super) fn outside(k: u64, value: u32, answer: String) -> Option<Decided> {
     match k {
         _ if is_cut(k, value) => None,
         3 => decided(U24_FOURTH_BYTE, answer),
@@ -56,7 +48,7 @@ fn outside(k: u64, value: u32, answer: String) -> Option<Decided> {
     }
 }
 
-fn cut_words(a: &mut Args) -> Result<(u64, u32), Bad> {
+pub(super) fn cut_words(a: &mut Args) -> Result<(u64, u32), Bad> {
     Ok((a.num()?, a.below(1 << 32)? as u32))
 }
 

@@ -1,8 +1,20 @@
-//! Header decode, the split, the walk over a datagram, finish.
+//! Header decode, the split, the walk over a datagram, the sample's place, finish.
 use super::super::*;
 use super::number::raw;
-use crate::crypto::MaskKey;
+use crate::MAX_CID_SIZE;
+use crate::crypto::{HeaderKey, MaskKey};
+use crate::harness::differences::{
+    CID_OVER_20, Decided, FORM_BIT, NUMBER_OFFSET, PLACE_PAST, SIZE_65527, VERSIONS_16, decided, settle,
+};
 use crate::harness::words::{Args, Bad, hex};
+use std::cell::Cell;
+
+/// The longest datagram, packet or header.
+pub(super) const MAX_DATAGRAM: usize = 65_527;
+/// The most supported versions.
+const MAX_VERSIONS: usize = 16;
+/// What rule 8 asks for behind the number offset: four bytes, and the sample.
+pub(super) const BEHIND_OFFSET: usize = 4 + 16;
 
 /// The paper's number of a refusal, by the source's text.
 fn number(e: &PacketDecodeError) -> u32 {
@@ -38,64 +50,68 @@ fn refusal(e: &PacketDecodeError) -> String {
 
 /// What reading is told: CIDLEN GREASE VERSIONS.
 struct Reader {
-    parser: FixedLengthConnectionIdParser,
+    local: usize,
     grease: bool,
     versions: Vec<u32>,
 }
 
 impl Reader {
     fn new(a: &mut Args) -> Result<Self, Bad> {
-        let parser = FixedLengthConnectionIdParser::new(a.num()? as usize);
-        Ok(Self { parser, grease: a.flag()?, versions: a.versions()? })
+        Ok(Self { local: a.num()? as usize, grease: a.flag()?, versions: a.versions()? })
     }
 
-    fn split(&self, data: BytesMut) -> Result<(PartialDecode, Option<BytesMut>), PacketDecodeError> {
-        PartialDecode::new(data, &self.parser, &self.versions, self.grease)
+    /// Document 01's answer to an argument outside its rule.
+    fn outside(&self, datagram: &[u8], answer: &str) -> Option<Decided> {
+        let name = if datagram.len() > MAX_DATAGRAM {
+            SIZE_65527
+        } else if self.local > MAX_CID_SIZE {
+            CID_OVER_20
+        } else if self.versions.len() > MAX_VERSIONS {
+            VERSIONS_16
+        } else {
+            return None;
+        };
+        decided(name, answer.into())
+    }
+
+    fn parser(&self) -> FixedLengthConnectionIdParser {
+        FixedLengthConnectionIdParser::new(self.local)
+    }
+
+    /// The header alone.
+    fn decode(&self, datagram: &[u8]) -> Result<PartialDecode, PacketDecodeError> {
+        let mut buf = io::Cursor::new(BytesMut::from(datagram));
+        let plain_header = ProtectedHeader::decode(&mut buf, &self.parser(), &self.versions, self.grease)?;
+        Ok(PartialDecode { plain_header, buf })
+    }
+
+    fn split(&self, datagram: BytesMut) -> Result<(PartialDecode, Option<BytesMut>), PacketDecodeError> {
+        PartialDecode::new(datagram, &self.parser(), &self.versions, self.grease)
     }
 }
 
-/// split CIDLEN GREASE VERSIONS B
-/// -> ok KIND HEADERLEN PACKETLEN RESTLEN VERSION RANDOM SPIN TOKENSTART TOKENLEN LENGTH DCID SCID
-pub(crate) fn split(a: &mut Args, out: &mut String) -> Result<(), Bad> {
-    let (reader, data) = (Reader::new(a)?, a.bytes()?);
-    *out += &match reader.split(data[..].into()) {
+/// decode CIDLEN GREASE VERSIONS B -> ok HEADER | no N | no 4 VERSION DCID SCID
+pub(crate) fn decode(a: &mut Args, out: &mut String) -> Result<(), Bad> {
+    let (reader, datagram) = (Reader::new(a)?, a.bytes()?);
+    settle(out, reader.outside(&datagram, "no 14"), || match reader.decode(&datagram) {
         Err(e) => refusal(&e),
-        Ok((packet, rest)) => {
-            let rest = rest.unwrap_or_default();
-            assert_eq!([packet.data(), &rest].concat(), data);
-            shown(&packet, rest.len())
-        }
-    };
+        Ok(packet) => format!("ok {}", header(&packet)),
+    });
     Ok(())
 }
 
-fn shown(packet: &PartialDecode, rest: usize) -> String {
-    let (mut version, mut random, mut spin, mut token, mut len) = (0, 0, false, 0..0, 0);
-    let mut src = None;
-    match &packet.plain_header {
-        ProtectedHeader::Initial(h) => {
-            (version, token, len, src) = (h.version, h.token_pos.clone(), h.len, Some(h.src_cid));
+/// split CIDLEN GREASE VERSIONS B -> ok HEADER PACKET REST TOKEN | no N | no 4 VERSION DCID SCID
+pub(crate) fn split(a: &mut Args, out: &mut String) -> Result<(), Bad> {
+    let (reader, datagram) = (Reader::new(a)?, a.bytes()?);
+    settle(out, reader.outside(&datagram, "no 14"), || match reader.split(datagram[..].into()) {
+        Err(e) => refusal(&e),
+        Ok((packet, rest)) => {
+            let rest = rest.map_or("none".into(), |rest| hex(&rest));
+            let token = packet.initial_header().map_or(&[][..], |h| &packet.data()[h.token_pos.clone()]);
+            format!("ok {} {} {rest} {}", header(&packet), hex(packet.data()), hex(token))
         }
-        ProtectedHeader::Long { src_cid, len: l, version: v, .. } => {
-            (version, len, src) = (*v, *l, Some(*src_cid));
-        }
-        ProtectedHeader::Retry { src_cid, version: v, .. } => (version, src) = (*v, Some(*src_cid)),
-        ProtectedHeader::Short { spin: s, .. } => spin = *s,
-        ProtectedHeader::VersionNegotiate { random: r, src_cid, .. } => {
-            (random, src) = (*r, Some(*src_cid));
-        }
-    }
-    format!(
-        "ok {} {} {} {rest} {version} {random} {} {} {} {len} {} {}",
-        kind(&packet.plain_header),
-        packet.buf.position(),
-        packet.len(),
-        u8::from(spin),
-        token.start,
-        token.len(),
-        hex(&packet.dst_cid()),
-        hex(src.as_deref().unwrap_or_default())
-    )
+    });
+    Ok(())
 }
 
 fn kind(header: &ProtectedHeader) -> &'static str {
@@ -109,65 +125,165 @@ fn kind(header: &ProtectedHeader) -> &'static str {
     }
 }
 
-/// walk CIDLEN GREASE VERSIONS B -> START LENGTH KIND HEADERLEN ; .. ; end TOTAL | .. refused START NUMBER
+/// HEADER: KIND, what only that kind has, OFFSET VERSION PAYLOADLEN SPACE ISINITIAL IS0RTT ISLONG DCID SCID
+fn header(packet: &PartialDecode) -> String {
+    let head = &packet.plain_header;
+    let (own, version, src) = match head {
+        ProtectedHeader::Initial(h) => {
+            (format!(" {} {} {}", h.token_pos.start, h.token_pos.len(), h.len), h.version, Some(h.src_cid))
+        }
+        ProtectedHeader::Long { len, version, src_cid, .. } => (format!(" {len}"), *version, Some(*src_cid)),
+        ProtectedHeader::Retry { version, src_cid, .. } => (String::new(), *version, Some(*src_cid)),
+        ProtectedHeader::Short { spin, .. } => (format!(" {}", u8::from(*spin)), 0, None),
+        ProtectedHeader::VersionNegotiate { random, src_cid, .. } => (format!(" {random}"), 0, Some(*src_cid)),
+    };
+    format!(
+        "{}{own} {} {version} {} {} {} {} {} {} {}",
+        kind(head),
+        packet.buf.position(),
+        head.payload_len().map_or("-".into(), |len| len.to_string()),
+        packet.space().map_or("-".into(), |space| (space as u8).to_string()),
+        u8::from(packet.is_initial()),
+        u8::from(packet.is_0rtt()),
+        u8::from(packet.has_long_header()),
+        hex(&packet.dst_cid()),
+        hex(src.as_deref().unwrap_or_default())
+    )
+}
+
+/// walk CIDLEN GREASE VERSIONS B -> for each packet START LENGTH KIND OFFSET; then end TOTAL | refused START N
 pub(crate) fn walk(a: &mut Args, out: &mut String) -> Result<(), Bad> {
-    let (reader, data) = (Reader::new(a)?, a.bytes()?);
-    let mut at = 0;
-    let mut left = Some(BytesMut::from(&data[..]));
+    let (reader, datagram) = (Reader::new(a)?, a.bytes()?);
+    settle(out, reader.outside(&datagram, "refused 0 14"), || walked(&reader, &datagram));
+    Ok(())
+}
+
+fn walked(reader: &Reader, datagram: &[u8]) -> String {
+    let (mut said, mut at) = (String::new(), 0);
+    let mut left = Some(BytesMut::from(datagram));
     while let Some(bytes) = left {
         match reader.split(bytes) {
-            Err(e) => {
-                *out += &format!("refused {at} {}", number(&e));
-                return Ok(());
-            }
+            Err(e) => return said + &format!("refused {at} {}", number(&e)),
             Ok((p, rest)) => {
-                let kind = kind(&p.plain_header);
-                *out += &format!("{at} {} {kind} {} ; ", p.len(), p.buf.position());
+                said += &format!("{at} {} {} {}; ", p.len(), kind(&p.plain_header), p.buf.position());
                 at += p.len();
                 left = rest;
             }
         }
     }
-    *out += &format!("end {at}");
-    Ok(())
+    said + &format!("end {at}")
 }
 
-/// finish CIDLEN GREASE VERSIONS MASK B
-/// -> ok KIND NUMBERLEN CUTNUMBER RESERVEDCLEAR KEYPHASE HEADERLEN PACKET | no N | split no N
-pub(crate) fn finish(a: &mut Args, out: &mut String) -> Result<(), Bad> {
-    let (reader, mask, data) = (Reader::new(a)?, a.array()?, a.bytes()?);
-    *out += &match reader.split(data[..].into()) {
-        Err(e) => format!("split {}", refusal(&e)),
-        Ok((part, _)) => {
-            let kind = kind(&part.plain_header);
-            match part.finish(Some(&MaskKey(mask))) {
-                Err(e) => format!("no {}", number_after_split(&e)),
-                Ok(p) => finished(kind, &p),
-            }
-        }
+/// ok FINISHED | no N PACKET. FINISHED: KIND NUMBERLEN NUMBER RESERVEDCLEAR KEYPHASE HEADER PAYLOAD
+fn finished(part: PartialDecode, packet: &[u8], key: &dyn HeaderKey) -> String {
+    let kind = kind(&part.plain_header);
+    let p = match part.finish(Some(key)) {
+        Err(e) => return format!("no {} {}", number_after_split(&e), hex(packet)),
+        Ok(p) => p,
     };
+    let phase = if p.header.is_short() { u8::from(p.header.key_phase()).to_string() } else { "-".into() };
+    let said = match p.header.number() {
+        Some(n) => format!("{} {} {} {phase}", n.len(), raw(n), u8::from(p.reserved_bits_valid())),
+        None => "- - - -".into(),
+    };
+    format!("ok {kind} {said} {} {}", hex(&p.header_data), hex(&p.payload))
+}
+
+/// A packet of any bytes, taken for one of a kind whose header ends at any offset.
+struct Taken {
+    kind: &'static str,
+    offset: u64,
+    packet: Vec<u8>,
+}
+
+impl Taken {
+    /// KIND OFFSET, and what is behind them
+    fn new<T>(a: &mut Args, behind: impl FnOnce(&mut Args) -> Result<T, Bad>) -> Result<(Self, T), Bad> {
+        let word = a.word()?;
+        let kind = ["initial", "0rtt", "handshake", "retry", "short", "vneg"].into_iter().find(|kind| *kind == word);
+        let (kind, offset, behind) = (kind.ok_or(Bad)?, a.num()?, behind(a)?);
+        Ok((Self { kind, offset, packet: a.bytes()? }, behind))
+    }
+
+    fn has_number(&self) -> bool {
+        !matches!(self.kind, "retry" | "vneg")
+    }
+
+    fn partial(&self) -> PartialDecode {
+        let (dst_cid, src_cid) = (ConnectionId::new(&[]), ConnectionId::new(&[]));
+        let (len, version) = (0, 1);
+        let plain_header = match self.kind {
+            "initial" => {
+                ProtectedHeader::Initial(ProtectedInitialHeader { dst_cid, src_cid, token_pos: 0..0, len, version })
+            }
+            "0rtt" => ProtectedHeader::Long { ty: LongType::ZeroRtt, dst_cid, src_cid, len, version },
+            "handshake" => ProtectedHeader::Long { ty: LongType::Handshake, dst_cid, src_cid, len, version },
+            "retry" => ProtectedHeader::Retry { dst_cid, src_cid, version },
+            "short" => ProtectedHeader::Short { spin: false, dst_cid },
+            _ => ProtectedHeader::VersionNegotiate { random: 0, dst_cid, src_cid },
+        };
+        let mut buf = io::Cursor::new(BytesMut::from(&self.packet[..]));
+        buf.set_position(self.offset);
+        PartialDecode { plain_header, buf }
+    }
+
+    /// Where document 01 decides before the first byte is looked at; what it answers where there is no number.
+    fn decided(&self, tail: &str, unnumbered: String) -> Option<Decided> {
+        let no = |n: u32| format!("no {n}{tail}");
+        if self.packet.len() > MAX_DATAGRAM {
+            decided(SIZE_65527, no(14))
+        } else if !self.has_number() {
+            if self.offset <= self.packet.len() as u64 { None } else { decided(PLACE_PAST, unnumbered) }
+        } else if self.offset == 0 {
+            decided(NUMBER_OFFSET, no(14))
+        } else if self.offset.checked_add(BEHIND_OFFSET as u64).is_none() {
+            decided(NUMBER_OFFSET, no(8))
+        } else {
+            None
+        }
+    }
+
+    /// Whether finish gets as far as the first byte, and 0x80 in it is not as the kind has it.
+    fn has_other_form(&self) -> bool {
+        let reaches = self.packet.len() as u64 >= self.offset + BEHIND_OFFSET as u64;
+        self.has_number() && reaches && (self.packet[0] & LONG_HEADER_FORM == 0) != (self.kind == "short")
+    }
+}
+
+/// finish KIND OFFSET MASK B -> ok FINISHED | no N B
+pub(crate) fn finish(a: &mut Args, out: &mut String) -> Result<(), Bad> {
+    let (taken, mask) = Taken::new(a, |a| a.array())?;
+    let tail = format!(" {}", hex(&taken.packet));
+    let paper = taken
+        .decided(&tail, format!("ok {} - - - - - -", taken.kind))
+        .or_else(|| if taken.has_other_form() { decided(FORM_BIT, format!("no 14{tail}")) } else { None });
+    settle(out, paper, || finished(taken.partial(), &taken.packet, &MaskKey(mask)));
     Ok(())
 }
 
-fn finished(kind: &str, p: &Packet) -> String {
-    let (k, cut) = p.header.number().map_or((0, 0), |n| (n.len(), raw(n)));
-    format!(
-        "ok {kind} {k} {cut} {} {} {} {}",
-        u8::from(k != 0 && p.reserved_bits_valid()),
-        u8::from(p.header.key_phase()),
-        p.header_data.len(),
-        hex(&[&p.header_data[..], &p.payload].concat())
-    )
+/// A header key that notes the number offset, and masks nothing.
+#[derive(Default)]
+struct Noting(Cell<Option<usize>>);
+impl HeaderKey for Noting {
+    fn decrypt(&self, pn_offset: usize, _packet: &mut [u8]) {
+        self.0.set(Some(pn_offset));
+    }
+    fn encrypt(&self, _pn_offset: usize, _packet: &mut [u8]) {}
+    fn sample_size(&self) -> usize {
+        16
+    }
 }
 
-/// unmask OFFSET MASK B -> ok NUMBERLEN CUTNUMBER PACKET | no 8 | no 9: decrypt_header, at any number offset
-pub(crate) fn unmask(a: &mut Args, out: &mut String) -> Result<(), Bad> {
-    let (at, mask, data) = (a.num()?, a.array()?, a.bytes()?);
-    let mut buf = io::Cursor::new(BytesMut::from(&data[..]));
-    buf.set_position(at);
-    match PartialDecode::decrypt_header(&mut buf, &MaskKey(mask)) {
-        Err(e) => *out += &format!("no {}", number_after_split(&e)),
-        Ok(n) => *out += &format!("ok {} {} {}", n.len(), raw(n), hex(buf.get_ref())),
-    }
+/// sample KIND OFFSET B -> ok START LEN | none | no N: by the offset that finish gives the header key, four bytes on
+pub(crate) fn sample(a: &mut Args, out: &mut String) -> Result<(), Bad> {
+    let (taken, ()) = Taken::new(a, |_| Ok(()))?;
+    settle(out, taken.decided("", "none".into()), || {
+        let key = Noting::default();
+        match (taken.partial().finish(Some(&key)), key.0.get()) {
+            (Err(e), _) => format!("no {}", number_after_split(&e)),
+            (Ok(_), Some(offset)) => format!("ok {} {}", offset + 4, key.sample_size()),
+            (Ok(_), None) => "none".into(),
+        }
+    });
     Ok(())
 }
