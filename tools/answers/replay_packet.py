@@ -1,0 +1,34 @@
+"""Packets in: header decode, split, walk."""
+KINDS = ['initial', '0rtt', 'handshake', 'retry', 'short', 'vneg']
+SIZE, OVER, COUNT = ' # size-65527', ' # cid-over-20', ' # versions-16'
+# refusals of a header by its bytes, and of an argument
+HEADER = [f'no {n}' for n in (1, 2, 3, 4, 5, 6)]
+OUTSIDE = ['no 14' + mark for mark in (SIZE, OVER, COUNT)]
+
+CLASSES = {
+    'decode': KINDS + HEADER + OUTSIDE,
+    'split': [f'{kind}, {rest}' for kind in KINDS[:3] for rest in ('a rest', 'no rest')] + KINDS[3:] + HEADER + ['no 7'] + OUTSIDE,
+    'walk': KINDS + ['end', 'end after several'] + [f'refused {n}{where}' for n in (1, 2, 3, 4, 5, 6, 7) for where in ('', ' after a packet')]
+    + ['refused 14' + mark for mark in (SIZE, OVER, COUNT)],
+}
+
+
+def split(question, answer):
+    """A packet's kind and, where it can end before the datagram does, whether something follows."""
+    kind = answer[1]
+    return kind if kind in KINDS[3:] else f'{kind}, {"no rest" if answer[-2] == "none" else "a rest"}'
+
+
+def walk(question, answer, mark):
+    """The kind of each packet, and how the walk ended."""
+    packets = answer.split('; ')
+    last = packets.pop().split(' ')
+    if last[0] == 'end':
+        said = 'end after several' if len(packets) > 1 else 'end'
+    else:
+        said = f'refused {last[2]}' + (' after a packet' if packets else '')
+    return [packet.split(' ')[2] for packet in packets] + [f'{said} # {mark}' if mark else said]
+
+
+DETAIL = {'decode': lambda q, a: a[1], 'split': split}
+MANY = {'walk': walk}
