@@ -1,0 +1,5 @@
+pub mod Exports
+pub mod Sizes
+pub mod Puts
+pub mod Whole
+pub mod Onces

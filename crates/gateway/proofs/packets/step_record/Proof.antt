@@ -1,0 +1,48 @@
+use Rattle.packet.specs.Said.{metOf, stepOf}
+use borrow.Author.Needs.{needs}
+use Rattle.gateway.proofs.packets.step_record.Statement.{statement}
+use Rattle.gateway.proofs.packets.step_record.Tie as tie
+
+enum-told : tie.Need-enum-told
+enum-told c = search needs
+
+no-packet-requires : tie.Need-no-packet-requires
+no-packet-requires c κs = search needs
+
+enum-known-found : tie.Need-enum-known-found
+enum-known-found c = search needs
+
+header-record-requires : tie.Need-header-record-requires
+header-record-requires c κs = search needs
+
+enum-known-found-2 : tie.Need-enum-known-found-2
+enum-known-found-2 c = search needs
+
+header-record-requires-2 : tie.Need-header-record-requires-2
+header-record-requires-2 c κs = search needs
+
+returns : tie.Need-returns
+unfolding stepOf metOf
+returns c = rw (c .before .enum-told .given .1, c .no-packet .ensures)
+
+returns-2 : tie.Need-returns-2
+unfolding stepOf metOf
+returns-2 c = rw (c .before .before .found .given .1, c .header-record .ensures)
+
+returns-3 : tie.Need-returns-3
+unfolding stepOf metOf
+returns-3 c = rw (c .before .before .found2 .given .1, c .header-record2 .ensures)
+
+pub step-record-spec : {M : Type 1} → statement M
+step-record-spec =
+    tie.close
+    (tie.spec
+    enum-told
+    no-packet-requires
+    enum-known-found
+    header-record-requires
+    enum-known-found-2
+    header-record-requires-2
+    returns
+    returns-2
+    returns-3)

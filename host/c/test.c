@@ -1,0 +1,147 @@
+/* Calls each function of include/guobbarel.h, and each argument that only C can get wrong: flags and kinds by number, masks by
+ * length, slices of no bytes by NULL. Prints what failed; the exit status is the number of failures, at most 1. */
+#include "../../include/guobbarel.h"
+
+#include <stdio.h>
+#include <string.h>
+
+static int failed;
+
+#define EXPECT(what)                                                   \
+    do {                                                               \
+        if (!(what)) {                                                 \
+            printf("%s:%d: not so: %s\n", __FILE__, __LINE__, #what);  \
+            failed = 1;                                                \
+        }                                                              \
+    } while (0)
+
+static const uint32_t versions[] = {1};
+
+static void split(void) {
+    const uint8_t datagram[] = {0xe0, 0, 0, 0, 1, 1, 0xdd, 0, 1, 0xaa, 0x40};
+    guobbarel_split_answer a = guobbarel_split(datagram, sizeof datagram, 0, 0, versions, 1, 0);
+    EXPECT(a.refusal == GUOBBAREL_OK && a.kind == GUOBBAREL_HANDSHAKE);
+    EXPECT(a.packet.start == 0 && a.packet.len == 10 && a.number_offset == 9 && a.version == 1 && a.length == 1);
+    EXPECT(a.dst_cid.start == 6 && a.dst_cid.len == 1 && a.src_cid.start == 8 && a.src_cid.len == 0);
+    a = guobbarel_split(datagram, sizeof datagram, 10, 0, versions, 1, 0);
+    EXPECT(a.refusal == GUOBBAREL_OK && a.kind == GUOBBAREL_SHORT && a.packet.start == 10 && a.packet.len == 1);
+    a = guobbarel_split(datagram, sizeof datagram, 11, 0, versions, 1, 0);
+    EXPECT(a.refusal == GUOBBAREL_OK && a.kind == GUOBBAREL_NO_PACKET);
+    a = guobbarel_split(datagram, sizeof datagram, SIZE_MAX, 0, versions, 1, 0);
+    EXPECT(a.refusal == GUOBBAREL_OK && a.kind == GUOBBAREL_NO_PACKET);
+    a = guobbarel_split(datagram, sizeof datagram, 0, 0, NULL, 0, 0);
+    EXPECT(a.refusal == GUOBBAREL_NO_VERSION && a.version == 1 && a.dst_cid.start == 6 && a.dst_cid.len == 1);
+    a = guobbarel_split(NULL, 0, 0, 0, NULL, 0, 0);
+    EXPECT(a.refusal == GUOBBAREL_NO_PACKET_END && a.kind == GUOBBAREL_NO_PACKET);
+    a = guobbarel_split(datagram, sizeof datagram, 0, 0, versions, 1, 2);
+    EXPECT(a.refusal == GUOBBAREL_NO_ARGUMENT && a.kind == GUOBBAREL_NO_PACKET);
+    a = guobbarel_split(datagram, sizeof datagram, 0, SIZE_MAX, versions, 1, 0);
+    EXPECT(a.refusal == GUOBBAREL_NO_ARGUMENT);
+}
+
+static void protection(void) {
+    uint8_t packet[24] = {0x40};
+    uint8_t before[24];
+    const uint8_t mask[5] = {0x02, 0x11, 0x22, 0x33, 0x44};
+    guobbarel_sample_answer s = guobbarel_sample_place(GUOBBAREL_SHORT, packet, sizeof packet, 1);
+    EXPECT(s.refusal == GUOBBAREL_OK && s.sample.start == 5 && s.sample.len == 16);
+    s = guobbarel_sample_place(GUOBBAREL_RETRY, packet, sizeof packet, 1);
+    EXPECT(s.refusal == GUOBBAREL_OK && s.sample.len == 0);
+    s = guobbarel_sample_place(GUOBBAREL_SHORT, NULL, 0, 1);
+    EXPECT(s.refusal == GUOBBAREL_NO_SAMPLE);
+    s = guobbarel_sample_place(GUOBBAREL_NO_PACKET, packet, sizeof packet, 1);
+    EXPECT(s.refusal == GUOBBAREL_NO_ARGUMENT);
+
+    memcpy(before, packet, sizeof packet);
+    EXPECT(guobbarel_unmask(6, packet, sizeof packet, 1, mask, 5).refusal == GUOBBAREL_NO_ARGUMENT);
+    EXPECT(guobbarel_unmask(GUOBBAREL_SHORT, packet, sizeof packet, 1, mask, 4).refusal == GUOBBAREL_NO_ARGUMENT);
+    EXPECT(guobbarel_unmask(GUOBBAREL_SHORT, packet, sizeof packet, 1, NULL, 0).refusal == GUOBBAREL_NO_ARGUMENT);
+    EXPECT(guobbarel_unmask(GUOBBAREL_SHORT, NULL, 0, 1, mask, 5).refusal == GUOBBAREL_NO_SAMPLE);
+    EXPECT(guobbarel_unmask(GUOBBAREL_SHORT, packet, sizeof packet, SIZE_MAX, mask, 5).refusal == GUOBBAREL_NO_SAMPLE);
+    EXPECT(guobbarel_mask(4, 3, 2, packet, sizeof packet, mask, 5) == GUOBBAREL_NO_ARGUMENT);
+    EXPECT(guobbarel_mask(4, 3, 0, packet, sizeof packet, mask, 6) == GUOBBAREL_NO_ARGUMENT);
+    EXPECT(guobbarel_mask(4, 3, 0, NULL, 0, mask, 5) == GUOBBAREL_NO_ARGUMENT);
+    EXPECT(memcmp(packet, before, sizeof packet) == 0);
+
+    guobbarel_unmask_answer a = guobbarel_unmask(GUOBBAREL_SHORT, packet, sizeof packet, 1, mask, 5);
+    EXPECT(a.refusal == GUOBBAREL_OK && a.number_len == 3 && a.number_value == 0x112233);
+    EXPECT(a.reserved_clear == 1 && a.key_phase == 0);
+    EXPECT(a.header.start == 0 && a.header.len == 4 && a.payload.start == 4 && a.payload.len == 20);
+    EXPECT(packet[0] == 0x42 && packet[1] == 0x11 && packet[3] == 0x33 && packet[4] == 0);
+    EXPECT(guobbarel_mask(4, 3, 0, packet, sizeof packet, mask, 5) == GUOBBAREL_OK);
+    EXPECT(memcmp(packet, before, sizeof packet) == 0);
+}
+
+static void frames(void) {
+    const uint8_t payload[] = {0x01, 0x02, 0x05, 0x00, 0x01, 0x01, 0x02, 0x00, 0x20};
+    guobbarel_frame_answer a = guobbarel_frame_read(payload, sizeof payload, 0);
+    EXPECT(a.refusal == GUOBBAREL_OK && a.found == 1 && a.name == 0x01 && a.next == 1);
+    EXPECT(a.value[0].kind == GUOBBAREL_NOTHING);
+    a = guobbarel_frame_read(payload, sizeof payload, 1);
+    EXPECT(a.found == 1 && a.start == 1 && a.next == 8 && a.frame_type == 2 && a.name == 2);
+    EXPECT(a.value[0].kind == GUOBBAREL_A_NUMBER && a.value[0].number == 5);
+    EXPECT(a.value[2].kind == GUOBBAREL_A_PLACE && a.value[2].place.start == 5 && a.value[2].place.len == 3);
+    EXPECT(a.value[3].kind == GUOBBAREL_NOTHING && a.value[5].kind == GUOBBAREL_NOTHING);
+    a = guobbarel_frame_read(payload, sizeof payload, 8);
+    EXPECT(a.refusal == GUOBBAREL_NO_INVALID_FRAME_ID && a.found == 0 && a.start == 8);
+    EXPECT(a.has_type == 1 && a.frame_type == 0x20);
+    a = guobbarel_frame_read(payload, sizeof payload, 9);
+    EXPECT(a.refusal == GUOBBAREL_OK && a.found == 0);
+    a = guobbarel_frame_read(NULL, 0, 0);
+    EXPECT(a.refusal == GUOBBAREL_NO_FRAMES && a.has_type == 0);
+}
+
+static void numbers(void) {
+    guobbarel_number_ends fresh = {0};
+    guobbarel_number_answer a = guobbarel_number_step(GUOBBAREL_SEND, fresh, 0, 0, 0);
+    EXPECT(a.refusal == GUOBBAREL_OK && a.number == 0 && a.number_len == 1 && a.number_value == 0 && a.ends.next == 1);
+    a = guobbarel_number_step(GUOBBAREL_ACKNOWLEDGE, a.ends, 0, 0, 0);
+    EXPECT(a.refusal == GUOBBAREL_OK && a.ends.has_acked == 1 && a.ends.acked == 0 && a.ends.next == 1);
+    a = guobbarel_number_step(GUOBBAREL_ACCEPT, a.ends, 127, 0, 0);
+    EXPECT(a.refusal == GUOBBAREL_OK && a.ends.has_largest == 1 && a.ends.largest == 127);
+    a = guobbarel_number_step(GUOBBAREL_READ, a.ends, 0, 1, 0);
+    EXPECT(a.refusal == GUOBBAREL_OK && a.number == 256 && a.ends.largest == 127);
+    a = guobbarel_number_step(4, a.ends, 0, 0, 0);
+    EXPECT(a.refusal == GUOBBAREL_NO_ARGUMENT && a.ends.largest == 127);
+    fresh.has_acked = 2;
+    a = guobbarel_number_step(GUOBBAREL_SEND, fresh, 0, 0, 0);
+    EXPECT(a.refusal == GUOBBAREL_NO_ARGUMENT && a.ends.has_acked == 2 && a.ends.next == 0);
+    fresh.has_acked = 1;
+    fresh.next = 2147483648u;
+    a = guobbarel_number_step(GUOBBAREL_SEND, fresh, 0, 0, 0);
+    EXPECT(a.refusal == GUOBBAREL_NO_TOO_FAR && a.ends.next == 2147483648u);
+}
+
+static void headers(void) {
+    const uint8_t cid[21] = {0xdd};
+    const uint8_t written[] = {0xe0, 0, 0, 0, 1, 1, 0xdd, 0, 0x40, 0x15, 0x09};
+    uint8_t out[32];
+    guobbarel_header h = {GUOBBAREL_HANDSHAKE, 0, 0, 0, 1, 9, 1};
+    memset(out, 0xee, sizeof out);
+    guobbarel_header_answer a = guobbarel_header_write(h, cid, 21, NULL, 0, NULL, 0, 20, out, sizeof out);
+    EXPECT(a.refusal == GUOBBAREL_NO_ARGUMENT && a.header_len == 0);
+    a = guobbarel_header_write(h, cid, 1, NULL, 0, NULL, 0, 20, out, 10);
+    EXPECT(a.refusal == GUOBBAREL_NO_ROOM && out[0] == 0xee);
+    a = guobbarel_header_write(h, cid, 1, NULL, 0, NULL, 0, 20, NULL, 0);
+    EXPECT(a.refusal == GUOBBAREL_NO_ROOM);
+    h.spin = 2;
+    EXPECT(guobbarel_header_write(h, cid, 1, NULL, 0, NULL, 0, 20, out, 32).refusal == GUOBBAREL_NO_ARGUMENT);
+    h.spin = 0;
+    h.kind = GUOBBAREL_NO_PACKET;
+    EXPECT(guobbarel_header_write(h, cid, 1, NULL, 0, NULL, 0, 20, out, 32).refusal == GUOBBAREL_NO_ARGUMENT);
+    h.kind = GUOBBAREL_HANDSHAKE;
+    a = guobbarel_header_write(h, cid, 1, NULL, 0, NULL, 0, 20, out, sizeof out);
+    EXPECT(a.refusal == GUOBBAREL_OK && a.header_len == 11 && a.number_len == 1 && a.has_length == 1);
+    EXPECT(memcmp(out, written, sizeof written) == 0 && out[11] == 0xee);
+}
+
+int main(void) {
+    split();
+    protection();
+    frames();
+    numbers();
+    headers();
+    if (!failed)
+        printf("the C surface is as its header says\n");
+    return failed;
+}

@@ -1,0 +1,332 @@
+//! Every call of the crate, and the refusals, on the worked examples of document 01 and of the RFCs.
+use guobbarel::*;
+
+fn bytes(hex: &str) -> Vec<u8> {
+    let digits: Vec<u8> = hex.bytes().filter(|b| !b.is_ascii_whitespace()).collect();
+    digits.chunks(2).map(|d| u8::from_str_radix(std::str::from_utf8(d).unwrap(), 16).unwrap()).collect()
+}
+
+fn packets(datagram: &[u8]) -> Vec<Result<Packet<'_>, PacketRefused<'_>>> {
+    Packets::new(datagram, 0, &[1], false).collect()
+}
+
+fn refused(datagram: &[u8]) -> Error {
+    packets(datagram).last().expect("an item").expect_err("a refusal").error
+}
+
+fn frames(payload: &[u8]) -> Vec<Frame<'_>> {
+    Frames::new(payload).map(|f| f.expect("a frame").frame).collect()
+}
+
+fn frame_refused(payload: &[u8]) -> FrameRefused {
+    Frames::new(payload).last().expect("an item").expect_err("a refusal")
+}
+
+#[test]
+fn errors_have_their_numbers_and_a_text() {
+    for (i, error) in Error::ALL.into_iter().enumerate() {
+        assert_eq!(error.number() as usize, i + 1);
+        assert_eq!(Error::from_number(error.number()), Some(error));
+        assert!(error.to_string().ends_with(&format!("({})", i + 1)));
+    }
+    assert_eq!(Error::from_number(0), None);
+    assert_eq!(Error::from_number(17), None);
+}
+
+#[test]
+fn a_datagram_is_walked() {
+    let datagram = bytes("e0 00000001 00 00 01 aa 40");
+    let found = packets(&datagram);
+    assert_eq!(found.len(), 2);
+    let first = found[0].unwrap();
+    assert_eq!((first.kind, first.start, first.bytes.len(), first.number_offset), (Kind::Handshake, 0, 9, 8));
+    assert_eq!((first.version, first.length), (1, 1));
+    let second = found[1].unwrap();
+    assert_eq!((second.kind, second.start, second.bytes.len(), second.number_offset), (Kind::Short, 9, 1, 1));
+    assert!(!second.spin);
+}
+
+#[test]
+fn a_header_has_its_parts() {
+    let datagram = bytes("c0 00000001 02 d1d2 03 515253 04 70717273 4002 aabb");
+    let p = packets(&datagram)[0].unwrap();
+    assert_eq!((p.kind, p.version, p.length), (Kind::Initial, 1, 2));
+    assert_eq!((p.dst_cid, p.src_cid, p.token), (&datagram[6..8], &datagram[9..12], &datagram[13..17]));
+    assert_eq!(p.number_offset, 19);
+
+    let datagram = bytes("60 d1d2d3 00");
+    let p = Packets::new(&datagram, 3, &[1], false).next().unwrap().unwrap();
+    assert_eq!((p.kind, p.spin, p.dst_cid, p.number_offset), (Kind::Short, true, &datagram[1..4], 4));
+
+    let datagram = bytes("ff 00000000 01 dd 01 55 00000001");
+    let p = packets(&datagram)[0].unwrap();
+    assert_eq!((p.kind, p.random, p.version), (Kind::VersionNegotiation, 0x7f, 0));
+
+    let datagram = bytes("d0 00000001 00 00 00 f0 00000001 00 00");
+    let kinds: Vec<Kind> = packets(&datagram).into_iter().map(|p| p.unwrap().kind).collect();
+    assert_eq!(kinds, [Kind::ZeroRtt, Kind::Retry]);
+}
+
+#[test]
+fn packets_are_refused() {
+    assert_eq!(refused(&[]), Error::PacketEnd);
+    assert_eq!(refused(&bytes("e0 000000")), Error::PacketEnd);
+    assert_eq!(refused(&bytes("80 00000000 00 00")), Error::FixedBit);
+    assert_eq!(refused(&bytes("e0 00000001")), Error::Cid);
+    assert_eq!(refused(&bytes("e0 00000001 15")), Error::Cid);
+    assert_eq!(refused(&bytes("c0 00000001 00 00 05 aa")), Error::Token);
+    assert_eq!(refused(&bytes("e0 00000001 00 00 03 aa 40")), Error::Length);
+    assert_eq!(refused(&vec![0; 65_528]), Error::Argument);
+    let short = Packets::new(&[0x40, 1, 2], 3, &[1], false).next().unwrap().unwrap_err();
+    assert_eq!(short.error, Error::ShortCid);
+    let long = Packets::new(&[0x40], 21, &[1], false).next().unwrap().unwrap_err();
+    assert_eq!(long.error, Error::Argument);
+    let many = Packets::new(&[0x40], 0, &[1; 17], false).next().unwrap().unwrap_err();
+    assert_eq!(many.error, Error::Argument);
+    let greased = Packets::new(&[0x80, 0, 0, 0, 0, 0, 0], 0, &[1], true).next().unwrap().unwrap();
+    assert_eq!((greased.kind, greased.random), (Kind::VersionNegotiation, 0));
+}
+
+#[test]
+fn an_unlisted_version_carries_what_negotiation_needs() {
+    let datagram = bytes("40 e0 00000002 02 d1d2 01 55");
+    let all: Vec<_> = Packets::new(&datagram[1..], 0, &[1], false).collect();
+    let no = all[0].unwrap_err();
+    assert_eq!((no.error, no.start), (Error::Version, 0));
+    let what = no.unsupported.unwrap();
+    assert_eq!((what.version, what.dst_cid, what.src_cid), (2, &datagram[7..9], &datagram[10..11]));
+    assert_eq!(all.len(), 1);
+}
+
+#[test]
+fn header_protection_comes_off_and_goes_on() {
+    let mut packet = bytes(include_str!("../examples/a2/packet.hex"));
+    let masked = packet.clone();
+    let mask = [0x43, 0x7b, 0x9a, 0xec, 0x36];
+    assert_eq!(sample(Kind::Initial, &packet, 18).unwrap().unwrap()[..], packet[22..38]);
+    let open = unmask(Kind::Initial, &mut packet, 18, &mask).unwrap().unwrap();
+    assert_eq!((open.number, open.reserved_clear), (CutNumber::new(4, 2), true));
+    assert_eq!((open.header, open.payload), (0..22, 22..1200));
+    assert_eq!(packet[..22], bytes("c300000001088394c8f03e5157080000449e00000002"));
+    assert_eq!(packet[22..], masked[22..]);
+    let written = Written { header_len: 22, number_len: 4, has_length: true };
+    assert_eq!(written.protect(&mut packet, &mask), Ok(()));
+    assert_eq!(packet, masked);
+
+    // a short packet: RFC 9001, A.5
+    let mut packet = bytes("4cfe4189655e5cd55c41f69080575d7999c25a5bfb");
+    let open = unmask(Kind::Short, &mut packet, 1, &[0xae, 0xfe, 0xfe, 0x7d, 0x03]).unwrap().unwrap();
+    assert_eq!((open.number, open.key_phase), (CutNumber::new(3, 0x00bff4), false));
+}
+
+#[test]
+fn header_protection_is_refused() {
+    let mask = [0; 5];
+    let before = [0x40; 21];
+    let mut packet = before;
+    assert_eq!(sample(Kind::Short, &packet[..20], 1), Err(Error::Sample));
+    assert!(sample(Kind::Short, &packet, 1).unwrap().is_some());
+    assert_eq!(sample(Kind::Retry, &packet, 1), Ok(None));
+    assert_eq!(sample(Kind::Short, &packet, 0), Err(Error::Argument));
+    assert_eq!(sample(Kind::Short, &packet, usize::MAX), Err(Error::Sample));
+    assert_eq!(unmask(Kind::Short, &mut packet[..20], 1, &mask), Err(Error::Sample));
+    assert_eq!(unmask(Kind::Short, &mut packet, 0, &mask), Err(Error::Argument));
+    assert_eq!(unmask(Kind::Handshake, &mut packet, 1, &mask), Err(Error::Argument));
+    assert_eq!(unmask(Kind::VersionNegotiation, &mut packet, 1, &mask), Ok(None));
+    let written = Written { header_len: 2, number_len: 1, has_length: false };
+    assert_eq!(written.protect(&mut packet[..20], &mask), Err(Error::Sample));
+    assert_eq!(written.protect(&mut packet[..1], &mask), Err(Error::Argument));
+    assert_eq!(Written { has_length: true, ..written }.protect(&mut packet, &mask), Err(Error::Argument));
+    assert_eq!(Written { number_len: 5, ..written }.protect(&mut packet, &mask), Err(Error::Argument));
+    assert_eq!(Written { number_len: 0, ..written }.protect(&mut packet, &mask), Ok(()));
+    assert_eq!(packet, before);
+}
+
+#[test]
+fn every_frame_is_read() {
+    let id = StreamId::new(1);
+    assert_eq!(frames(&bytes("00 01 1e 1f")), [Frame::Padding, Frame::Ping, Frame::HandshakeDone, Frame::ImmediateAck]);
+    assert_eq!(frames(&bytes("04 01 02 03")), [Frame::ResetStream { id, error_code: 2, final_size: 3 }]);
+    assert_eq!(frames(&bytes("05 01 02")), [Frame::StopSending { id, error_code: 2 }]);
+    assert_eq!(frames(&bytes("06 07 01 aa")), [Frame::Crypto { offset: 7, data: &[0xaa] }]);
+    assert_eq!(frames(&bytes("07 01 aa")), [Frame::NewToken { token: &[0xaa] }]);
+    let stream = |offset, fin, has_length| Frame::Stream { id, offset, fin, has_length, data: &[0xaa] };
+    assert_eq!(frames(&bytes("0f 01 05 01 aa 08 01 aa")), [stream(5, true, true), stream(0, false, false)]);
+    assert_eq!(
+        frames(&bytes("10 02 11 01 02")),
+        [Frame::MaxData { maximum: 2 }, Frame::MaxStreamData { id, maximum: 2 }]
+    );
+    assert_eq!(
+        frames(&bytes("12 02 13 02")),
+        [Frame::MaxStreams { one_way: false, maximum: 2 }, Frame::MaxStreams { one_way: true, maximum: 2 }]
+    );
+    assert_eq!(
+        frames(&bytes("14 02 15 01 02")),
+        [Frame::DataBlocked { limit: 2 }, Frame::StreamDataBlocked { id, limit: 2 }]
+    );
+    assert_eq!(
+        frames(&bytes("16 02 17 02")),
+        [Frame::StreamsBlocked { one_way: false, limit: 2 }, Frame::StreamsBlocked { one_way: true, limit: 2 }]
+    );
+    let payload = bytes("18 02 01 01 cc 000102030405060708090a0b0c0d0e0f 19 02");
+    assert_eq!(
+        frames(&payload),
+        [
+            Frame::NewConnectionId { sequence: 2, retire_prior_to: 1, id: &[0xcc], reset_token: &payload[5..21] },
+            Frame::RetireConnectionId { sequence: 2 }
+        ]
+    );
+    assert_eq!(
+        frames(&bytes("1a 0000000000000102 1b ffffffffffffffff")),
+        [Frame::PathChallenge { data: 0x102 }, Frame::PathResponse { data: u64::MAX }]
+    );
+    assert_eq!(
+        frames(&bytes("1c 02 00 01 aa 1c 02 08 00 1d 02 01 aa")),
+        [
+            Frame::ConnectionClose { error_code: 2, frame_type: None, reason: &[0xaa] },
+            Frame::ConnectionClose { error_code: 2, frame_type: Some(FrameType::new(8)), reason: &[] },
+            Frame::ApplicationClose { error_code: 2, reason: &[0xaa] }
+        ]
+    );
+    assert_eq!(
+        frames(&bytes("31 01 aa 30 aa bb")),
+        [
+            Frame::Datagram { has_length: true, data: &[0xaa] },
+            Frame::Datagram { has_length: false, data: &[0xaa, 0xbb] }
+        ]
+    );
+    assert_eq!(
+        frames(&bytes("40af 01 02 03 04")),
+        [Frame::AckFrequency { sequence: 1, threshold: 2, max_delay: 3, reordering: 4 }]
+    );
+}
+
+#[test]
+fn acks_have_ranges() {
+    let ack = |payload: &[u8]| match frames(payload)[0] {
+        Frame::Ack(ack) => {
+            (ack.ecn, ack.ranges().map(|r| r.unwrap()).map(|r| (r.smallest.get(), r.largest.get())).collect())
+        }
+        _ => panic!("not an ACK"),
+    };
+    assert_eq!(ack(&bytes("02 05 00 01 01 02 00")), (None, vec![(4, 5), (0, 0)]));
+    let ecn = Some(EcnCounts { ect0: 7, ect1: 8, ce: 9 });
+    assert_eq!(ack(&bytes("03 4064 00 00 00 07 08 09")), (ecn, vec![(100, 100)]));
+
+    let ranges = |largest, blocks: &[u8]| AckRanges::new(FullNumber::new(largest), blocks).last().unwrap();
+    assert_eq!(ranges(5, &[6]), Err(Error::Malformed));
+    assert_eq!(ranges(5, &[0x40]), Err(Error::UnexpectedEnd));
+    assert_eq!(ranges(5, &[0, 0x40]), Err(Error::UnexpectedEnd));
+    assert_eq!(ranges(5, &[0, 4, 0]), Err(Error::Malformed));
+    assert_eq!(ranges(5, &[0, 1]), Err(Error::UnexpectedEnd));
+    assert_eq!(ranges(1 << 62, &[0]), Err(Error::Argument));
+    assert_eq!(ranges(1 << 62, &[]), Err(Error::Argument));
+    assert_eq!(ranges(5, &[0; 65_528]), Err(Error::Argument));
+    assert!(AckRanges::new(FullNumber::new(5), &[]).next().is_none());
+}
+
+#[test]
+fn frames_are_refused() {
+    let at = |error, start, ty: Option<u64>| FrameRefused { error, start, ty: ty.map(FrameType::new) };
+    assert_eq!(frame_refused(&[]), at(Error::NoFrames, 0, None));
+    assert_eq!(frame_refused(&vec![0; 65_528]), at(Error::Argument, 0, None));
+    assert_eq!(frame_refused(&bytes("01 40")), at(Error::UnexpectedEnd, 1, None));
+    assert_eq!(frame_refused(&bytes("18 01 01 04")), at(Error::UnexpectedEnd, 0, Some(0x18)));
+    assert_eq!(frame_refused(&bytes("20")), at(Error::InvalidFrameId, 0, Some(0x20)));
+    assert_eq!(frame_refused(&bytes("01 18 00 01")), at(Error::Malformed, 1, Some(0x18)));
+    assert_eq!(frame_refused(&bytes("02 05 00 01 01 03 00")), at(Error::Malformed, 0, Some(2)));
+}
+
+#[test]
+fn numbers_are_sent_read_and_accepted() {
+    let mut sender = Ends::new();
+    let mut receiver = Ends::default();
+    for n in 0..1000 {
+        let sent = sender.send().unwrap();
+        assert_eq!(sent.number.get(), n);
+        let read = receiver.read(sent.cut).unwrap();
+        assert_eq!(read, sent.number);
+        receiver.accept(read).unwrap();
+        if n % 7 == 0 {
+            sender.acknowledge(read).unwrap();
+        }
+    }
+    assert_eq!(sender.next().get(), 1000);
+    assert_eq!(sender.acknowledged().unwrap().get(), 994);
+    assert_eq!(receiver.accepted().unwrap().get(), 999);
+    assert_eq!((receiver.next().get(), receiver.acknowledged()), (0, None));
+
+    let before = sender;
+    assert_eq!(sender.acknowledge(FullNumber::new(1000)), Err(Error::Argument));
+    assert_eq!(receiver.accept(FullNumber::new(1 << 62)), Err(Error::Argument));
+    assert_eq!(receiver.read(CutNumber::new(5, 0)), Err(Error::Argument));
+    assert_eq!(receiver.read(CutNumber::new(1, 256)), Err(Error::Argument));
+    assert_eq!(sender, before);
+
+    let number = FullNumber::new;
+    let kept = Ends::from_parts(sender.next(), sender.acknowledged(), sender.accepted());
+    assert_eq!(kept, sender);
+    assert_eq!(Ends::from_parts(number(1 << 31), None, None).send(), Err(Error::TooFar));
+    assert_eq!(Ends::from_parts(number(1 << 62), None, None).send(), Err(Error::Argument));
+    assert_eq!(Ends::from_parts(number(3), Some(number(3)), None).send(), Err(Error::Argument));
+}
+
+#[test]
+fn a_header_is_written_masked_and_read_back() {
+    let number = CutNumber::new(2, 0x0102);
+    let header = Header::Initial { version: 1, number };
+    let mut packet = vec![0xee; 100];
+    let written = header.write(&[0xd1, 0xd2], &[0x55], &[0x77; 3], 40, &mut packet).unwrap();
+    assert_eq!((written.number_len, written.has_length), (2, true));
+    assert_eq!(packet[..written.header_len], bytes("c1 00000001 02 d1d2 01 55 03 777777 402a 0102"));
+    assert!(packet[written.header_len..].iter().all(|&b| b == 0xee));
+
+    packet.truncate(written.header_len + 40);
+    let clear = packet.clone();
+    let mask = [0xff; 5];
+    written.protect(&mut packet, &mask).unwrap();
+    let p = packets(&packet)[0].unwrap();
+    assert_eq!((p.kind, p.bytes.len(), p.length, p.token), (Kind::Initial, packet.len(), 42, &[0x77; 3][..]));
+    let number_offset = p.number_offset;
+    let open = unmask(Kind::Initial, &mut packet, number_offset, &mask).unwrap().unwrap();
+    assert_eq!((open.number, open.payload.len()), (number, 40));
+    assert_eq!(packet, clear);
+}
+
+#[test]
+fn every_kind_is_written() {
+    let number = CutNumber::new(1, 9);
+    let write = |header: Header| {
+        let mut out = [0; 64];
+        let written = header.write(&[0xdd], &[0x55], &[], 20, &mut out).unwrap();
+        (written.has_length, written.number_len, out[..written.header_len].to_vec())
+    };
+    assert_eq!(write(Header::ZeroRtt { version: 1, number }), (true, 1, bytes("d0 00000001 01dd 0155 4015 09")));
+    assert_eq!(write(Header::Handshake { version: 1, number }), (true, 1, bytes("e0 00000001 01dd 0155 4015 09")));
+    assert_eq!(write(Header::Retry { version: 1 }), (false, 0, bytes("f0 00000001 01dd 0155")));
+    assert_eq!(write(Header::Short { spin: true, key_phase: true, number }), (false, 1, bytes("64 dd 09")));
+    assert_eq!(write(Header::VersionNegotiation { random: 5 }), (false, 0, bytes("85 00000000 01dd 0155")));
+}
+
+#[test]
+fn headers_are_refused_and_leave_the_buffer() {
+    let before = [0xee; 70_000];
+    let mut out = before;
+    let number = CutNumber::new(1, 9);
+    let handshake = Header::Handshake { version: 1, number };
+    assert_eq!(handshake.write(&[0; 21], &[], &[], 0, &mut out), Err(Error::Argument));
+    assert_eq!(handshake.write(&[], &[0; 21], &[], 0, &mut out), Err(Error::Argument));
+    assert_eq!(handshake.write(&[], &[], &[], 16_383, &mut out), Err(Error::Argument));
+    assert_eq!(handshake.write(&[], &[], &[], usize::MAX, &mut out), Err(Error::Argument));
+    assert_eq!(handshake.write(&[], &[], &[], 0, &mut out[..9]), Err(Error::Room));
+    let wrong = Header::Handshake { version: 1, number: CutNumber::new(1, 256) };
+    assert_eq!(wrong.write(&[], &[], &[], 0, &mut out[..9]), Err(Error::Argument));
+    let short = Header::Short { spin: false, key_phase: false, number };
+    assert_eq!(short.write(&[], &[], &[], 65_526, &mut out), Err(Error::Argument));
+    assert_eq!(short.write(&[], &[], &[0; 65_528], 0, &mut out), Err(Error::Argument));
+    let initial = Header::Initial { version: 1, number };
+    assert_eq!(initial.write(&[], &[], &[0; 60_000], 6_000, &mut out), Err(Error::Argument));
+    assert_eq!(out, before);
+    assert_eq!(handshake.write(&[], &[], &[], 16_382, &mut out).unwrap().header_len, 10);
+    assert_eq!(short.write(&[], &[], &[], 65_525, &mut out).unwrap().header_len, 2);
+}
