@@ -1,0 +1,152 @@
+//! Both sides of a case, compared; what came up, and how often.
+use crate::{classes, ours};
+use oracle::harness::ask;
+use std::collections::{BTreeMap, BTreeSet};
+use std::panic::catch_unwind;
+use std::time::Instant;
+
+/// How many cases are shown that differ, and after how many there is no use in going on.
+const SHOWN: usize = 10;
+const TOO_MANY: usize = 1000;
+/// After how many cases a line of progress is written.
+const PROGRESS: u64 = 500_000;
+
+type Counts = BTreeMap<String, u64>;
+
+fn count(counts: &mut Counts, name: &str) {
+    match counts.get_mut(name) {
+        Some(n) => *n += 1,
+        None => {
+            counts.insert(name.into(), 1);
+        }
+    }
+}
+
+/// What one operation's cases came to.
+#[derive(Default)]
+struct Operation {
+    asked: u64,
+    not_asked: u64,
+    classes: Counts,
+}
+
+pub struct Tally {
+    operations: BTreeMap<&'static str, Operation>,
+    marks: Counts,
+    differ: Vec<String>,
+    asked: u64,
+    started: Instant,
+}
+
+impl Tally {
+    pub fn new(ops: &[&'static str]) -> Self {
+        let operations = ops.iter().map(|&op| (op, Operation::default())).collect();
+        Self { operations, marks: Counts::new(), differ: Vec::new(), asked: 0, started: Instant::now() }
+    }
+
+    pub fn asked(&self) -> u64 {
+        self.asked
+    }
+
+    pub fn is_hopeless(&self) -> bool {
+        self.differ.len() > TOO_MANY
+    }
+
+    /// Asks both sides, if the case is of an operation that is counted and can be asked over the surface.
+    pub fn ask(&mut self, question: &str) {
+        let op = question.split(' ').next().unwrap_or_default();
+        let Some(operation) = self.operations.get_mut(op) else { return };
+        let answer = catch_unwind(|| ours::answer(question)); // it panics only over an answer that makes no sense
+        let Some(ours) = answer.unwrap_or_else(|_| Some("panic".into())) else {
+            operation.not_asked += 1;
+            return;
+        };
+        let mut rust = String::new();
+        ask::answer(question, &mut rust);
+        let (wanted, mark) = rust.split_once(" # ").unwrap_or((&rust, ""));
+        operation.asked += 1;
+        classes::each(op, question, wanted, &mut |class| count(&mut operation.classes, class));
+        if !mark.is_empty() {
+            count(&mut self.marks, mark);
+        }
+        if !agree(&ours, wanted) {
+            self.differ.push(format!("DIFFERENT  {question}\n  rust     {rust}\n  surface  {ours}"));
+        }
+        self.asked += 1;
+        if self.asked.is_multiple_of(PROGRESS) {
+            let took = self.started.elapsed().as_secs_f64();
+            eprintln!("surface: {} cases, {} different, {took:.0} s", self.asked, self.differ.len());
+        }
+    }
+
+    /// Prints all counts; answers whether nothing differs, every class came up and every mark is named.
+    pub fn report(&self, named: &BTreeSet<String>) -> bool {
+        println!("{:10} {:20} {:>10} {:>10}", "operation", "answer", "cases", "not asked");
+        let mut faults = Vec::new();
+        for (op, operation) in &self.operations {
+            println!("{op:10} {:20} {:10} {:10}", "", operation.asked, operation.not_asked);
+            for (class, n) in &operation.classes {
+                println!("{:10} {class:20} {n:10}", "");
+            }
+            let came_up = |class: &&str| operation.classes.contains_key(*class);
+            faults.extend(classes::all(op).filter(|c| !came_up(c)).map(|c| format!("never came up: {op}: {c}")));
+            let is_unknown = |class: &&String| classes::all(op).all(|known| known != *class);
+            let unknown = operation.classes.keys().filter(is_unknown);
+            faults.extend(unknown.map(|c| format!("no class of the list: {op}: {c}")));
+        }
+        for (mark, n) in &self.marks {
+            println!("{:10} {:20} {n:10}", "mark", mark);
+        }
+        faults.extend(
+            self.marks.keys().filter(|m| !named.contains(*m)).map(|m| format!("not in docs/DIFFERENCES.md: {m}")),
+        );
+        faults.extend(self.differ.iter().take(SHOWN).cloned());
+        faults.iter().for_each(|fault| println!("{fault}"));
+        let (marked, took) = (self.marks.values().sum::<u64>(), self.started.elapsed().as_secs_f64());
+        println!(
+            "{} cases over the surface, {} different; {marked} marked with {} named differences; {took:.0} s",
+            self.asked,
+            self.differ.len(),
+            self.marks.len()
+        );
+        faults.is_empty()
+    }
+}
+
+/// Whether our line is the Rust's, but for the words that the surface does not say.
+fn agree(ours: &str, rust: &str) -> bool {
+    let mut parts = ours.split(ours::UNSAID);
+    let Some(mut left) = rust.strip_prefix(parts.next().unwrap_or_default()) else { return false };
+    for part in parts {
+        let word = left.find([' ', ';']).unwrap_or(left.len());
+        match left[word..].strip_prefix(part) {
+            Some(rest) if word > 0 => left = rest,
+            _ => return false,
+        }
+    }
+    left.is_empty()
+}
+
+#[cfg(test)]
+mod tests {
+    use super::agree;
+
+    #[test]
+    fn an_unsaid_word_is_any_one_word() {
+        assert!(agree("ok 1 2", "ok 1 2"));
+        assert!(agree("ok _ 2", "ok 17 2"));
+        assert!(agree("ok _", "ok -"));
+        assert!(agree("1 2 : _ _;end : _ _;", "1 2 : 0 12;end : 5 0;"));
+    }
+
+    #[test]
+    fn all_other_words_count() {
+        assert!(!agree("ok 1 2", "ok 1 3"));
+        assert!(!agree("ok 1", "ok 1 2"));
+        assert!(!agree("ok 1 2", "ok 1"));
+        assert!(!agree("ok _ 2", "ok 17 3"));
+        assert!(!agree("ok _", "ok"));
+        assert!(!agree("ok _", "ok 1 2"));
+        assert!(!agree("ok _ 2", "ok 2"));
+    }
+}
