@@ -62,6 +62,17 @@ fn around_62(r: &mut Rng) -> u64 {
     }
 }
 
+/// The bytes that x takes, 1 where it has no form.
+fn size(x: u64) -> usize {
+    match x {
+        0..0x40 => 1,
+        0x40..0x4000 => 2,
+        0x4000..0x4000_0000 => 4,
+        0x4000_0000..END => 8,
+        _ => 1,
+    }
+}
+
 /// Bytes that tell their place.
 fn bytes(n: u64) -> String {
     hex(&(0..n).map(|i| (0xa0 + i) as u8).collect::<Vec<u8>>())

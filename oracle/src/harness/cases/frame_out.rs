@@ -1,7 +1,7 @@
 //! Cases of the encoders of frames, of the codecs beside them, and of the sizes.
 use super::super::rng::{END, Rng};
 use super::super::words::hex;
-use super::{Made, around_62, bytes};
+use super::{Made, around_62, bytes, size};
 
 pub const MADE: &[Made] =
     &[("fenc", 40, fenc), ("fdec", 4, fdec), ("fsize", 2, fsize), ("bounds", 1, |_| String::new())];
@@ -15,17 +15,6 @@ pub fn exhaust(emit: &mut dyn FnMut(String)) {
     acks(emit);
     longest(emit);
     small(emit);
-}
-
-/// The bytes that x takes, 1 where it has no form.
-fn size(x: u64) -> usize {
-    match x {
-        0..0x40 => 1,
-        0x40..0x4000 => 2,
-        0x4000..0x4000_0000 => 4,
-        0x4000_0000..END => 8,
-        _ => 1,
-    }
 }
 
 fn sizes(xs: &[u64]) -> usize {

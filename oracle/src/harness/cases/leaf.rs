@@ -1,7 +1,7 @@
 //! Cases of integers, reads and puts, connection ids, stream ids, ECN bits, frame types.
 use super::super::rng::{END, Rng};
 use super::super::words::hex;
-use super::{Made, around_62, bytes, edges};
+use super::{Made, around_62, bytes, edges, size};
 
 pub const MADE: &[Made] = &[
     ("vread", 12, vread),
@@ -32,17 +32,6 @@ pub fn exhaust(emit: &mut dyn FnMut(String)) {
     cids(emit);
     small_kinds(emit);
     longest(emit);
-}
-
-/// The bytes that x takes, 1 where it has no form.
-fn size(x: u64) -> usize {
-    match x {
-        0..0x40 => 1,
-        0x40..0x4000 => 2,
-        0x4000..0x4000_0000 => 4,
-        0x4000_0000..END => 8,
-        _ => 1,
-    }
 }
 
 /// A place, and a buffer in which about n bytes fit there.
