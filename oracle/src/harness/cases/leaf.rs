@@ -1,5 +1,5 @@
 //! Cases of integers, reads and puts, connection ids, stream ids, ECN bits, frame types.
-use super::super::rng::{END, Rng};
+use super::super::rng::Rng;
 use super::super::words::hex;
 use super::{Made, around_62, bytes, edges, size};
 
