@@ -49,3 +49,9 @@ pub(crate) use std::time::Instant; // the same line as in lib.rs
 #[warn(dead_code, unused_imports)]
 #[forbid(unsafe_code)]
 pub mod harness;
+
+/// What the benchmarks time.
+pub mod bench {
+    pub use crate::frame::probe::bench::Payload;
+    pub use crate::packet::probe::bench::{Cut, Datagram, Head, Split, cut, protect};
+}

@@ -1,5 +1,6 @@
 //! Child of the given frame.rs: sees its private items.
 mod ack;
+pub(crate) mod bench;
 mod leaf;
 mod reading;
 mod writing;

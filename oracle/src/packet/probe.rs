@@ -1,4 +1,5 @@
 //! Child of the given packet.rs: sees its private items.
+pub(crate) mod bench;
 mod ends;
 mod number;
 mod reading;
