@@ -1,0 +1,301 @@
+//! The rows: an operation, its input, and both sides of it.
+use crate::clock::{Pair, Tally, plain, prepared};
+use crate::inputs::{self, CID, LOCAL, LONGEST, MASK, VERSIONS, Widths};
+use guobbarel::{CutNumber, Ends, Frame, Frames, FullNumber, Header, Kind, Packets, Written, unmask};
+use oracle::bench as rust;
+use oracle::crypto::MaskKey;
+use std::hint::black_box;
+
+/// A row of the table, or a point of the plot.
+pub struct Row {
+    /// The group that it stands in.
+    pub group: &'static str,
+    /// The input in words.
+    pub input: String,
+    pub bytes: usize,
+    /// How many frames, packets or blocks; 0 where that says nothing.
+    pub items: usize,
+    pub pair: Pair,
+}
+
+pub const INTEGERS: &str = "Integers: MAX_DATA frames";
+pub const SPLIT: &str = "Split";
+pub const FINISH: &str = "Finish";
+pub const HEADERS: &str = "Header write";
+pub const PROTECT: &str = "Protect";
+pub const WALK: &str = "Frame walk";
+pub const SCAN: &str = "ACK scan";
+pub const RANGES: &str = "ACK ranges";
+pub const NUMBERS: &str = "Packet numbers";
+
+type Rows = Result<Vec<Row>, String>;
+
+/// A row of bytes and items.
+fn row(
+    group: &'static str,
+    input: String,
+    [bytes, items]: [usize; 2],
+    pair: Result<Pair, String>,
+) -> Result<Row, String> {
+    let pair = pair.map_err(|why| format!("{group}, {input}: {why}"))?;
+    Ok(Row { group, input, bytes, items, pair })
+}
+
+/// Every row of the table.
+pub fn all() -> Rows {
+    Ok([integers()?, split()?, finish()?, headers()?, protect()?, walks()?, scans()?, numbers()?]
+        .into_iter()
+        .flatten()
+        .collect())
+}
+
+/// The frames of a payload: how many, and their bytes.
+fn walk(payload: &[u8]) -> Tally {
+    let (mut count, mut bytes) = (0, 0);
+    for frame in Frames::new(payload) {
+        let Ok(read) = black_box(&frame) else { return None };
+        (count, bytes) = (count + 1, bytes + read.len as u64);
+    }
+    Some((count, bytes))
+}
+
+fn walked(group: &'static str, input: String, payload: Vec<u8>, items: Option<usize>) -> Result<Row, String> {
+    let theirs = rust::Payload::new(&payload);
+    let sizes = [payload.len(), items.or(walk(&payload).map(|tally| tally.0 as usize)).unwrap_or(0)];
+    let pair = Pair::plain(plain(move || walk(black_box(&payload))), plain(move || black_box(&theirs).walk()));
+    row(group, input, sizes, pair)
+}
+
+fn integers() -> Rows {
+    [1, 2, 4, 8]
+        .map(|width| walked(INTEGERS, format!("{width}-byte integer"), inputs::max_data(1000, width), None))
+        .into_iter()
+        .collect()
+}
+
+fn walks() -> Rows {
+    [
+        ("busy connection: ACK, limits, new id, four streams", inputs::busy()),
+        ("client Initial of RFC 9001, A.2: CRYPTO, PADDING", inputs::client_initial()),
+        ("small frames of seven kinds", inputs::small_frames(LONGEST)),
+        ("PADDING alone", vec![0; LONGEST]),
+        ("one STREAM frame", inputs::one_stream(LONGEST)),
+    ]
+    .map(|(input, payload)| walked(WALK, input.into(), payload, None))
+    .into_iter()
+    .collect()
+}
+
+fn scan(blocks: usize, widths: Widths) -> Result<Row, String> {
+    let (payload, held) = inputs::ack(blocks, widths);
+    walked(SCAN, format!("{} fields", widths.name()), payload, Some(held))
+}
+
+/// The ranges of the ACK frame at the start: how many, and the least number.
+fn ranges(payload: &[u8]) -> Tally {
+    let Frame::Ack(ack) = Frames::new(payload).next()?.ok()?.frame else { return None };
+    let (mut count, mut least) = (0, 0);
+    for range in ack.ranges() {
+        (count, least) = (count + 1, black_box(range).ok()?.smallest.get());
+    }
+    Some((count, least))
+}
+
+fn scans() -> Rows {
+    let mut rows = Vec::new();
+    for blocks in [100, 1000, 10_000] {
+        for widths in [Widths::All(1), Widths::All(2), Widths::All(4), Widths::All(8), Widths::Mixed] {
+            rows.push(scan(blocks, widths)?);
+        }
+    }
+    let (payload, held) = inputs::ack(1000, Widths::Mixed);
+    let theirs = rust::Payload::new(&payload);
+    let sizes = [payload.len(), held];
+    let pair = Pair::plain(plain(move || ranges(black_box(&payload))), plain(move || black_box(&theirs).ranges()));
+    rows.push(row(RANGES, "mixed fields, scanned and then read".into(), sizes, pair)?);
+    Ok(rows)
+}
+
+/// The packets of a datagram: how many, and their bytes.
+fn packets(datagram: &[u8]) -> Tally {
+    let (mut count, mut bytes) = (0, 0);
+    for packet in Packets::new(datagram, LOCAL, &VERSIONS, false) {
+        let Ok(packet) = black_box(&packet) else { return None };
+        (count, bytes) = (count + 1, bytes + packet.bytes.len() as u64);
+    }
+    Some((count, bytes))
+}
+
+fn splits(input: String, datagram: Vec<u8>, items: usize) -> Result<Row, String> {
+    let sizes = [datagram.len(), items];
+    let given = datagram.clone();
+    let ours = prepared(move || datagram.clone(), |datagram| packets(datagram));
+    let theirs = prepared(move || rust::Datagram::new(&given), |datagram| datagram.walk(LOCAL, black_box(&VERSIONS)));
+    row(SPLIT, input, sizes, Pair::prepared(ours, theirs, sizes[0]))
+}
+
+fn split() -> Rows {
+    [("Initial, Handshake and short", inputs::three_packets(), 3), ("short", inputs::short(1200), 1)]
+        .map(|(input, datagram, items)| splits(input.into(), datagram, items))
+        .into_iter()
+        .collect()
+}
+
+fn finished(input: &str, kind: Kind, packet: Vec<u8>) -> Result<Row, String> {
+    let offset = match Packets::new(&packet, LOCAL, &VERSIONS, false).next() {
+        Some(Ok(packet)) => packet.number_offset,
+        _ => return Err(format!("{FINISH}, {input}: ours refuses the packet")),
+    };
+    let (sizes, given) = ([packet.len(), 0], packet.clone());
+    let ours = prepared(
+        move || packet.clone(),
+        move |packet| {
+            let found = unmask(black_box(kind), packet, black_box(offset), black_box(&MASK)).ok()??;
+            let found = black_box(&found);
+            Some((found.number.value().into(), found.header.len() as u64))
+        },
+    );
+    let key = MaskKey(MASK);
+    let theirs = prepared(
+        move || rust::Split::new(&given, LOCAL, &VERSIONS),
+        move |packet| packet.as_mut()?.finish(black_box(&key)),
+    );
+    row(FINISH, input.into(), sizes, Pair::prepared(ours, theirs, sizes[0]))
+}
+
+fn finish() -> Rows {
+    [finished("Initial", Kind::Initial, inputs::initial(1200)), finished("short", Kind::Short, inputs::short(1200))]
+        .into_iter()
+        .collect()
+}
+
+/// A header as both sides have it.
+struct Head {
+    name: &'static str,
+    ours: Header,
+    theirs: rust::Head,
+    src_cid: &'static [u8],
+    token: &'static [u8],
+}
+
+const CUT: (usize, u32) = (2, 0x1234);
+
+fn heads() -> [Head; 3] {
+    let number = CutNumber::new(CUT.0, CUT.1);
+    let cut = || rust::Cut::new(CUT.0 as u64, CUT.1);
+    let token: &[u8] = &[0x99; 32];
+    [
+        Head {
+            name: "Initial, token of 32 bytes",
+            ours: Header::Initial { version: 1, number },
+            theirs: rust::Head::initial(1, &CID, &CID, token, cut()),
+            src_cid: &CID,
+            token,
+        },
+        Head {
+            name: "Handshake",
+            ours: Header::Handshake { version: 1, number },
+            theirs: rust::Head::handshake(1, &CID, &CID, cut()),
+            src_cid: &CID,
+            token: &[],
+        },
+        Head {
+            name: "short",
+            ours: Header::Short { spin: false, key_phase: false, number },
+            theirs: rust::Head::short(&CID, cut()),
+            src_cid: &[],
+            token: &[],
+        },
+    ]
+}
+
+const PAYLOAD: usize = 1000;
+
+impl Head {
+    fn write(&self, out: &mut [u8]) -> Option<Written> {
+        let (src_cid, token) = (black_box(self.src_cid), black_box(self.token));
+        self.ours.write(black_box(&CID), src_cid, token, black_box(PAYLOAD), out).ok()
+    }
+}
+
+fn headers() -> Rows {
+    let one = |i: usize| {
+        let [ours, theirs] = [heads(), heads()].map(|heads| heads.into_iter().nth(i));
+        let (ours, theirs) = ours.zip(theirs).ok_or("no such header")?;
+        let (mut out, mut w) = (vec![0; 1500], Vec::with_capacity(1500));
+        let (name, bytes) = (ours.name, ours.write(&mut out).map_or(0, |written| written.header_len));
+        let ours = plain(move || {
+            let written = black_box(&ours).write(&mut out)?;
+            black_box(&out[..]);
+            Some((written.header_len as u64, written.number_len as u64))
+        });
+        let theirs = plain(move || black_box(&theirs.theirs).encode(&mut w));
+        row(HEADERS, name.into(), [bytes, 0], Pair::plain(ours, theirs))
+    };
+    (0..3).map(one).collect()
+}
+
+/// A packet with its header, as encryption leaves it.
+fn protect() -> Rows {
+    let one = |head: &Head| {
+        let mut packet = vec![0xa5; 1500];
+        let written = head.write(&mut packet).ok_or("the header is refused")?;
+        packet.truncate(written.header_len + PAYLOAD);
+        let (sizes, given) = ([packet.len(), 0], packet.clone());
+        let first = |packet: &[u8]| Some((packet[0].into(), packet.len() as u64));
+        let ours = prepared(
+            move || packet.clone(),
+            move |packet| {
+                black_box(&written).protect(packet, black_box(&MASK)).ok()?;
+                first(packet)
+            },
+        );
+        let key = MaskKey(MASK);
+        let theirs = prepared(
+            move || given.clone(),
+            move |packet| {
+                let told = black_box(&written);
+                rust::protect(told.header_len, told.number_len, told.has_length, packet, black_box(&key));
+                first(packet)
+            },
+        );
+        row(PROTECT, head.name.into(), sizes, Pair::prepared(ours, theirs, sizes[0]))
+    };
+    heads()[1..].iter().map(one).collect()
+}
+
+fn numbers() -> Rows {
+    let (next, acked, accepted) = (1_000_100, 1_000_000, 1_000_000);
+    let ends = Ends::from_parts(FullNumber::new(next), Some(FullNumber::new(acked)), Some(FullNumber::new(accepted)));
+    let sent = plain(move || {
+        let mut ends = black_box(ends);
+        let sent = ends.send().ok()?;
+        black_box(&ends);
+        Some((sent.cut.len() as u64, sent.number.get()))
+    });
+    let cut = plain(move || Some(rust::cut(black_box(next), black_box(acked))));
+    let number = CutNumber::new(CUT.0, CUT.1);
+    let read = plain(move || {
+        let full = black_box(&ends).read(black_box(number)).ok()?;
+        Some((number.len() as u64, full.get()))
+    });
+    let theirs = rust::Cut::new(CUT.0 as u64, CUT.1);
+    let expand = plain(move || Some(black_box(&theirs).expand(black_box(accepted + 1))));
+    Ok(vec![
+        row(NUMBERS, "send, against PacketNumber::new".into(), [0, 0], Pair::plain(sent, cut))?,
+        row(NUMBERS, "read, against PacketNumber::expand".into(), [0, 0], Pair::plain(read, expand))?,
+    ])
+}
+
+/// The points of the plot: for each of three operations its inputs, from small to large.
+pub fn growth() -> Result<[Vec<Row>; 3], String> {
+    let split = [1, 2, 5, 10, 20, 50, 100, 200, 400, 655].map(|n| splits(String::new(), inputs::handshakes(n), n));
+    let walk = [500, 1000, 2000, 5000, 10_000, 20_000, 40_000, LONGEST]
+        .map(|bytes| walked(WALK, String::new(), inputs::small_frames(bytes), None));
+    let scans = [100, 200, 500, 1000, 2000, 4000, 8000, 16_000].map(|blocks| scan(blocks, Widths::All(2)));
+    Ok([
+        split.into_iter().collect::<Rows>()?,
+        walk.into_iter().collect::<Rows>()?,
+        scans.into_iter().collect::<Rows>()?,
+    ])
+}
