@@ -1,12 +1,8 @@
 //! The C surface beside the given Rust, in one process: every case of the oracle's that the surface can answer.
-mod classes;
-mod ours;
-mod tally;
-
 use oracle::harness::cases;
-use std::collections::BTreeSet;
 use std::process::ExitCode;
-use tally::Tally;
+use surface::ours;
+use surface::tally::{Tally, named_differences};
 
 const USAGE: &str = "\
 usage: surface [--seed S] [--count N] [--op OP..]  N random cases (default 1000000, seed 1), of these operations or of all
@@ -47,17 +43,6 @@ fn wanted(args: &[String]) -> Option<Wanted> {
     Some(wanted)
 }
 
-/// The heading words of docs/DIFFERENCES.md.
-fn named_differences() -> std::io::Result<BTreeSet<String>> {
-    let text = std::fs::read_to_string(concat!(env!("CARGO_MANIFEST_DIR"), "/../docs/DIFFERENCES.md"))?;
-    let heading = |line: &str| {
-        let words = line.strip_prefix('#')?.trim_start_matches('#').trim_start_matches([' ', '`']);
-        let end = words.find(|c: char| !c.is_alphanumeric() && c != '-').unwrap_or(words.len());
-        Some(words[..end].to_string())
-    };
-    Ok(text.lines().filter_map(heading).collect())
-}
-
 fn main() -> ExitCode {
     let args: Vec<String> = std::env::args().skip(1).collect();
     let Some(wanted) = wanted(&args) else {
@@ -89,7 +74,7 @@ fn main() -> ExitCode {
 fn exhaust(tally: &mut Tally) {
     cases::exhaust(&mut |question| {
         if !tally.is_hopeless() {
-            tally.ask(&question);
+            ask(tally, &question);
         }
     });
 }
@@ -99,8 +84,14 @@ fn random(tally: &mut Tally, wanted: &Wanted) -> Result<(), String> {
     let mut case = 0;
     while tally.asked() < wanted.count && !tally.is_hopeless() {
         let question = cases::random(wanted.seed, case, &wanted.ops);
-        tally.ask(&question.ok_or_else(|| format!("the oracle lacks one of {}", wanted.ops.join(" ")))?);
+        ask(tally, &question.ok_or_else(|| format!("the oracle lacks one of {}", wanted.ops.join(" ")))?);
         case += 1;
     }
     Ok(())
+}
+
+fn ask(tally: &mut Tally, question: &str) {
+    if tally.ask(question).is_some() {
+        tally.progress();
+    }
 }

@@ -11,7 +11,7 @@ const TOO_MANY: usize = 1000;
 /// After how many cases a line of progress is written.
 const PROGRESS: u64 = 500_000;
 
-type Counts = BTreeMap<String, u64>;
+pub type Counts = BTreeMap<String, u64>;
 
 fn count(counts: &mut Counts, name: &str) {
     match counts.get_mut(name) {
@@ -22,18 +22,40 @@ fn count(counts: &mut Counts, name: &str) {
     }
 }
 
+/// What the two sides answer to a case; the Rust's line has its mark.
+pub struct Both {
+    pub ours: String,
+    pub rust: String,
+}
+
+impl Both {
+    /// None where the case cannot be asked over the surface.
+    fn of(question: &str) -> Option<Self> {
+        let answer = catch_unwind(|| ours::answer(question)); // it panics only over an answer that makes no sense
+        let ours = answer.unwrap_or_else(|_| Some("panic".into()))?;
+        let mut rust = String::new();
+        ask::answer(question, &mut rust);
+        Some(Self { ours, rust })
+    }
+
+    /// The line that ours must be, and the mark.
+    pub fn wanted(&self) -> (&str, &str) {
+        self.rust.split_once(" # ").unwrap_or((&self.rust, ""))
+    }
+}
+
 /// What one operation's cases came to.
 #[derive(Default)]
-struct Operation {
-    asked: u64,
-    not_asked: u64,
-    classes: Counts,
+pub struct Operation {
+    pub asked: u64,
+    pub not_asked: u64,
+    pub classes: Counts,
 }
 
 pub struct Tally {
-    operations: BTreeMap<&'static str, Operation>,
-    marks: Counts,
-    differ: Vec<String>,
+    pub operations: BTreeMap<&'static str, Operation>,
+    pub marks: Counts,
+    pub differ: Vec<String>,
     asked: u64,
     started: Instant,
 }
@@ -53,26 +75,28 @@ impl Tally {
     }
 
     /// Asks both sides, if the case is of an operation that is counted and can be asked over the surface.
-    pub fn ask(&mut self, question: &str) {
+    pub fn ask(&mut self, question: &str) -> Option<Both> {
         let op = question.split(' ').next().unwrap_or_default();
-        let Some(operation) = self.operations.get_mut(op) else { return };
-        let answer = catch_unwind(|| ours::answer(question)); // it panics only over an answer that makes no sense
-        let Some(ours) = answer.unwrap_or_else(|_| Some("panic".into())) else {
+        let operation = self.operations.get_mut(op)?;
+        let Some(both) = Both::of(question) else {
             operation.not_asked += 1;
-            return;
+            return None;
         };
-        let mut rust = String::new();
-        ask::answer(question, &mut rust);
-        let (wanted, mark) = rust.split_once(" # ").unwrap_or((&rust, ""));
+        let (wanted, mark) = both.wanted();
         operation.asked += 1;
         classes::each(op, question, wanted, &mut |class| count(&mut operation.classes, class));
         if !mark.is_empty() {
             count(&mut self.marks, mark);
         }
-        if !agree(&ours, wanted) {
-            self.differ.push(format!("DIFFERENT  {question}\n  rust     {rust}\n  surface  {ours}"));
+        if !agree(&both.ours, wanted) {
+            self.differ.push(format!("DIFFERENT  {question}\n  rust     {}\n  surface  {}", both.rust, both.ours));
         }
         self.asked += 1;
+        Some(both)
+    }
+
+    /// Writes a line now and then, after a case.
+    pub fn progress(&self) {
         if self.asked.is_multiple_of(PROGRESS) {
             let took = self.started.elapsed().as_secs_f64();
             eprintln!("surface: {} cases, {} different, {took:.0} s", self.asked, self.differ.len());
@@ -111,6 +135,17 @@ impl Tally {
         );
         faults.is_empty()
     }
+}
+
+/// The heading words of docs/DIFFERENCES.md.
+pub fn named_differences() -> std::io::Result<BTreeSet<String>> {
+    let text = std::fs::read_to_string(concat!(env!("CARGO_MANIFEST_DIR"), "/../docs/DIFFERENCES.md"))?;
+    let heading = |line: &str| {
+        let words = line.strip_prefix('#')?.trim_start_matches('#').trim_start_matches([' ', '`']);
+        let end = words.find(|c: char| !c.is_alphanumeric() && c != '-').unwrap_or(words.len());
+        Some(words[..end].to_string())
+    };
+    Ok(text.lines().filter_map(heading).collect())
 }
 
 /// Whether our line is the Rust's, but for the words that the surface does not say.

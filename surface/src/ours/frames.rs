@@ -73,8 +73,8 @@ fn ranges(x: &Ack) -> String {
     x.ranges().map(|range| range.map_or_else(no, |r| format!(" {}-{}", r.smallest, r.largest))).collect()
 }
 
-/// ackscan AT LARGEST EXTRA B: by an ACK frame that has these blocks. Where such a frame cannot be made, or passes the longest
-/// payload, there is no counterpart.
+/// ackscan AT LARGEST EXTRA B: by an ACK frame that has these blocks. Where such a frame cannot be made, or it or the slice passes
+/// the longest payload, there is no counterpart.
 pub fn ackscan(a: &mut Args) -> Said {
     let (at, largest, extra, b) = (a.num()? as usize, a.num()?, a.num()?, a.bytes()?);
     let Some(blocks) = b.get(at..).filter(|_| largest < END && extra < END) else {
@@ -82,7 +82,7 @@ pub fn ackscan(a: &mut Args) -> Said {
     };
     let form = |x: u64| (3 << 62 | x).to_be_bytes();
     let payload = [&[0x02][..], &form(largest), &form(0), &form(extra), blocks].concat();
-    if payload.len() > LONGEST {
+    if payload.len().max(b.len()) > LONGEST {
         return Ok(None);
     }
     let before = payload.len() - blocks.len();
