@@ -209,6 +209,14 @@ module _ (s : List ℕ) (at : ℕ) where
     unfolding varAt if_then_else_
     var-some v l k = rw (k, lt-ltb _ _ h, ← e, le-leb _ _ l)
 
+  -- one byte below 64 is itself
+  pub var-one : at < length s → byteAt s at < 64 → got (byteAt s at) (at + 1) ≡ varAt s at
+  unfolding varLen be
+  var-one h k =
+      let q : byteAt s at / 64 ≡ 0 = omega arith in
+      let m : byteAt s at ≡ byteAt s at % 64 = omega arith in
+      var-some 1 h (simp q) (byteAt s at) (omega arith) m
+
 -- ---- what a read says of the input: it ends past its start and inside
 
 module _ {A : Type 0} (s : List ℕ) (at n next : ℕ) (a b : A) where

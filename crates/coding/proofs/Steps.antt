@@ -1,16 +1,16 @@
 -- What one turn of this crate's loops does. Assumes nothing.
 use mathlib.Core.Path.{_≡_, refl, ap, _∙_}
 use mathlib.Core.List.{List, [], _∷_, _++_}
-use Prim.Native.Nat.{ℕ, zero, suc, _+_, _-_, _*_, _/_, _%_, _^_, _≤_, _<_}
+use Prim.Native.Nat.{ℕ, suc, _+_, _-_, _*_, _/_, _%_, _^_, _≤_, _<_}
 use native.Mathlib.Nat.{pow-suc, pow-succ', mul-assoc, mul-le-mul-right, le-trans, le-mul-of-pos-right, one-le-pow, div-div-eq-div-mul}
 use native.Mathlib.Numerals.{add-one}
 use native.Mathlib.Omega.{arith}
 use lib.ListN.{length, take, drop, getD, set, length-drop}
 use lib.Seq.{take-suc, getD-drop, set-comm, sets, sets-eq}
 use Rattle.coding.specs.Bytes.{be, bytesBE, splice}
-use Rattle.coding.specs.Varint.{varTag, varSize, varBytes, varTop}
-use Rattle.coding.specs.Words.{if_then_else_}
-use Rattle.coding.proofs.Laws.{fits-tag}
+use Rattle.coding.specs.Varint.{varTag, varSize, varBytes, varPut}
+use Rattle.coding.specs.Writing.{Put}
+use Rattle.coding.proofs.Laws.{put-some}
 
 -- ---- reading a number: one byte more
 
@@ -71,27 +71,9 @@ pub sets-splice : (l bs : List ℕ) (at : ℕ) → at + length bs ≤ length l �
 unfolding splice
 sets-splice l bs at h = sets-eq bs l at h
 
--- ---- the tag of a written integer
+-- ---- an integer that is put, by its tag
 
-pub top-tag : (k : ℕ) → k < 4 → varTop (2 ^ k) ≡ k * 2 ^ (8 * 2 ^ k - 2)
-unfolding varTop if_then_else_
-top-tag zero h = refl
-top-tag (suc zero) h = refl
-top-tag (suc (suc zero)) h = refl
-top-tag (suc (suc (suc zero))) h = refl
-top-tag (suc (suc (suc (suc k)))) h = absurd (omega arith)
-
-top-fits : (k x : ℕ) → k < 4 → x < 2 ^ (8 * 2 ^ k - 2) → varTop (2 ^ k) + x < 2 ^ 64
-unfolding varTop if_then_else_
-top-fits zero x h p = omega arith
-top-fits (suc zero) x h p = omega arith
-top-fits (suc (suc zero)) x h p = omega arith
-top-fits (suc (suc (suc zero))) x h p = omega arith
-top-fits (suc (suc (suc (suc k)))) x h p = absurd (omega arith)
-
--- the tag and x fit in 64 bits, and their bytes are the shortest form of x
-pub topped : (x : ℕ) → x < 2 ^ 62 → (varTop (varSize x) + x < 2 ^ 64) × (bytesBE (varSize x) (varTop (varSize x) + x) ≡ varBytes x)
+pub put-tag : (x k : ℕ) (old : List ℕ) (at r : ℕ) (new : List ℕ)
+    → x < 2 ^ 62 → k ≡ varTag x → Put (bytesBE (2 ^ k) (k * 2 ^ (8 * 2 ^ k - 2) + x)) old at r new → Put (varPut x) old at r new
 unfolding varBytes varSize
-topped x h =
-    let t = fits-tag x h in
-    (top-fits (varTag x) x (t .0) (t .1), rw (top-tag (varTag x) (t .0)))
+put-tag x k old at r new h e p = rw (put-some x h, ← e) p

@@ -2,7 +2,7 @@
 use Prim.Native.Nat.{ℕ, _+_, _-_, _*_, _/_, _%_, _^_}
 use mathlib.Core.List.{List, []}
 use lib.ListN.{length, take, drop}
-use lib.Dec.{ltb, leb, eqb}
+use lib.Dec.{ltb, leb}
 use Rattle.coding.specs.Words.{if_then_else_, Got, cut, got, Answer, no, ok}
 use Rattle.coding.specs.Bytes.{byteAt, be, bytesBE}
 
@@ -47,7 +47,3 @@ varOut x = in62 x (varBytes x)
 -- what a put of x stores
 unfoldable pub varPut : ℕ → List ℕ
 varPut x = if ltb x (2 ^ 62) then varBytes x else []
-
--- the two top bits by the length
-unfoldable pub varTop : ℕ → ℕ
-varTop n = if eqb n 1 then 0 else if eqb n 2 then 2 ^ 14 else if eqb n 4 then 2 * 2 ^ 30 else 3 * 2 ^ 62

@@ -12,7 +12,7 @@ ghost use Prim.Native.Nat.{_+_, _≤_, _<_, _*_, _^_};
 ghost use lib.ListN.{length, take, drop};
 ghost use Rattle.coding.specs.Bytes.{be, bytesBE, splice};
 ghost use Rattle.coding.specs.Reading.{fixedAt, takeAt};
-ghost use Rattle.coding.specs.Varint.{varLen, varAt, varTop, varPut};
+ghost use Rattle.coding.specs.Varint.{varLen, varAt, varPut};
 ghost use Rattle.coding.specs.Writing.{Put};
 ghost use Rattle.coding.specs.Places.{Part, startOf, partOf};
 ghost use Rattle.coding.specs.Said.{u8Of, u16Of, u32Of, u64Of, varOf, placeOf, Below};
@@ -151,6 +151,10 @@ pub fn get_var(s: &[u8], at: usize) -> VarRead
         return VarRead::End;
     }
     let first = s[at];
+    // most are of one byte, and are read without waiting for a length
+    if first < 64 {
+        return VarRead::Var(VarInt(wide(first)), at + 1);
+    }
     let n = var_len(first);
     if s.len() - at < n {
         return VarRead::End;
@@ -258,24 +262,21 @@ pub fn put_slice(buf: &mut [u8], at: usize, bytes: &[u8]) -> usize
     at + i
 }
 
-// The two top bits of an integer of n bytes.
-fn var_top(n: usize) -> u64
-    ensures { λ r. ⌜ r ≡ varTop n ⌝ }
-{
-    match n {
-        1 => 0,
-        2 => 0x4000,
-        4 => 0x8000_0000,
-        _ => 0xc000_0000_0000_0000,
-    }
-}
-
 // Puts x in its shortest form; from 2^62 on there is none, and nothing is put.
 pub fn write_var(buf: &mut [u8], at: usize, x: u64) -> usize
     ensures { λ r. ⌜ Put (varPut x) (now (buf .entry)) at r (now (buf .exit)) ⌝ }
 {
-    let Sized::Bytes(n) = VarInt(x).size() else {
-        return at;
-    };
-    put_num(buf, at, n, var_top(n) + x)
+    if x < 0x40 {
+        return put_num(buf, at, 1, x);
+    }
+    if x < 0x4000 {
+        return put_num(buf, at, 2, 0x4000 + x);
+    }
+    if x < 0x4000_0000 {
+        return put_num(buf, at, 4, 0x8000_0000 + x);
+    }
+    if x < 0x4000_0000_0000_0000 {
+        return put_num(buf, at, 8, 0xc000_0000_0000_0000 + x);
+    }
+    at
 }

@@ -1,33 +1,13 @@
 use native.Mathlib.Omega.{arith}
-use Rattle.coding.proofs.Laws.{sized-bytes, sized-not, put-some, put-nothing}
-use Rattle.coding.proofs.Steps.{topped}
+use native.Mathlib.Nat.{zero-add}
+use Rattle.coding.specs.Varint.{varTag}
+use Rattle.coding.proofs.Laws.{put-nothing}
+use Rattle.coding.proofs.Rules.{choices}
+use Rattle.coding.proofs.Steps.{put-tag}
 use Rattle.coding.proofs.Writes.{put-none}
 use borrow.Author.Needs.{needs}
 use Rattle.coding.proofs.write_var.Statement.{statement}
 use Rattle.coding.proofs.write_var.Tie as tie
-
-size-requires : tie.Need-size-requires
-size-requires c κs = search needs
-
-enum-known-n : tie.Need-enum-known-n
-enum-known-n c = search needs
-
-enum-told : tie.Need-enum-told
-enum-told c = search needs
-
-returns : tie.Need-returns
-returns c =
-    let h = sized-not _ _ _ (c .before .before .size .ensures) (c .enum-told .given .1) in
-    rw (put-nothing _ h) (put-none _ _)
-
-var-top-requires : tie.Need-var-top-requires
-var-top-requires c κs = search needs
-
-add-put-num : tie.Need-add-put-num
-add-put-num c =
-    let b = c .before .before .before in
-    let h = sized-bytes _ _ _ (b .before .before .size .ensures) (b .n .given .1) in
-    omega (arith, rw (h .1) at (topped _ (h .0) .0), c .var-top .ensures)
 
 put-num-requires : tie.Need-put-num-requires
 put-num-requires c κs = search needs
@@ -35,22 +15,69 @@ put-num-requires c κs = search needs
 same-length : tie.Need-same-length
 same-length c = search needs
 
+returns : tie.Need-returns
+unfolding varTag
+returns c = put-tag _ 0 _ _ _ _ (omega arith) (search choices) (rw (zero-add _) (c .before .before .put-num .ensures))
+
+add-put-num : tie.Need-add-put-num
+add-put-num c = search needs
+
+put-num-requires-2 : tie.Need-put-num-requires-2
+put-num-requires-2 c κs = search needs
+
+same-length-2 : tie.Need-same-length-2
+same-length-2 c = search needs
+
 returns-2 : tie.Need-returns-2
-returns-2 c =
-    let b = c .before .before .before .before .before .before in
-    let h = sized-bytes _ _ _ (b .before .before .size .ensures) (b .n .given .1) in
-    rw (put-some _ (h .0), ← topped _ (h .0) .1, h .1, ← c .before .before .before .var-top .ensures) (c .before .before .put-num .ensures)
+unfolding varTag
+returns-2 c = put-tag _ 1 _ _ _ _ (omega arith) (search choices) (c .before .before .put-num2 .ensures)
+
+add-put-num-2 : tie.Need-add-put-num-2
+add-put-num-2 c = search needs
+
+put-num-requires-3 : tie.Need-put-num-requires-3
+put-num-requires-3 c κs = search needs
+
+same-length-3 : tie.Need-same-length-3
+same-length-3 c = search needs
+
+returns-3 : tie.Need-returns-3
+unfolding varTag
+returns-3 c = put-tag _ 2 _ _ _ _ (omega arith) (search choices) (c .before .before .put-num3 .ensures)
+
+add-put-num-3 : tie.Need-add-put-num-3
+add-put-num-3 c = search needs
+
+put-num-requires-4 : tie.Need-put-num-requires-4
+put-num-requires-4 c κs = search needs
+
+same-length-4 : tie.Need-same-length-4
+same-length-4 c = search needs
+
+returns-4 : tie.Need-returns-4
+unfolding varTag
+returns-4 c = put-tag _ 3 _ _ _ _ (omega arith) (search choices) (c .before .before .put-num4 .ensures)
+
+returns-5 : tie.Need-returns-5
+returns-5 c = rw (put-nothing (c .before .before .before .before .before .args .x) (omega arith)) (put-none _ _)
 
 pub write-var-spec : {M : Type 1} → statement M
 write-var-spec =
     tie.close
     (tie.spec
-    size-requires
-    enum-known-n
-    enum-told
-    returns
-    var-top-requires
-    add-put-num
     put-num-requires
     same-length
-    returns-2)
+    returns
+    add-put-num
+    put-num-requires-2
+    same-length-2
+    returns-2
+    add-put-num-2
+    put-num-requires-3
+    same-length-3
+    returns-3
+    add-put-num-3
+    put-num-requires-4
+    same-length-4
+    returns-4
+    returns-5)
