@@ -1,24 +1,41 @@
 -- What header_write stores is what encode writes and the Length step then sets, for any payload of the given length. Assumes nothing.
-use Prim.Native.Nat.{ℕ, _+_, _^_, _<_}
+use Prim.Native.Nat.{ℕ, _+_, _^_, _≤_, _<_}
 use mathlib.Core.Path.{_≡_, refl, sym, ap, _∙_}
 use mathlib.Core.List.{List, _++_}
-use mathlib.Core.Bool.{true}
+use mathlib.Core.Bool.{Bool, true, false, _&&_}
 use mathlib.Core.Option.{some}
 use native.Mathlib.Omega.{arith}
 use lib.ListN.{length}
-use lib.Dec.{ltb}
-use borrow.Author.Tests.{ltb-true}
+use lib.Dec.{leb}
+use borrow.Author.Tests.{leb-true}
 use Rattle.coding.specs.Words.{if_then_else_, ok}
 use Rattle.shared.specs.declared.cid.ConnectionId.{ConnectionId}
 use Rattle.shared.specs.declared.kinds.CutNumber.{CutNumber}
 use Rattle.number.specs.Cutting.{isCut}
 use Rattle.packet.specs.TypeBits.{bitsOf}
-use Rattle.packet_out.specs.Encoding.{Plain, numberIn, numberLenIn, numberKeeps, shapeBy, headerBy, headerBytes}
+use Rattle.packet_out.specs.Encoding.{Plain, numberIn, numberLenIn, numberKeeps, keepRules, shapeBy, headerBy, headerBytes}
 use Rattle.packet_out.specs.Length.{lengthField, lengthSet}
-use Rattle.packet_out.proofs.Laws.{kept}
+use Rattle.packet_out.proofs.Laws.{kept, length-small}
 use Rattle.packet_out.proofs.Sent.{sets}
-use Rattle.gateway.specs.Headers.{numberSize, lengthFits, fits}
-use Rattle.gateway.proofs.Puts.{fit, whole}
+use Rattle.packet_out.specs.Before.{numberSize, lengthFits, fits, headerWith}
+
+-- what fits
+record Fit (p : Plain) (dst src : ConnectionId) (token : List ℕ) (n : ℕ) : Type 0 where
+  rules : keepRules (numberIn p) dst src ≡ true
+  len : lengthFits (shapeBy bitsOf p .hasLength) (numberSize p + n) ≡ true
+  all : length (headerBytes p dst src token) + n ≤ 65527
+
+module _ (p : Plain) (dst src : ConnectionId) (token : List ℕ) (n : ℕ) where
+  fit : fits p dst src token n ≡ true → Fit p dst src token n
+  unfolding fits
+  fit = go (keepRules (numberIn p) dst src) (lengthFits (shapeBy bitsOf p .hasLength) (numberSize p + n)) (leb (length (headerBytes p dst src token) + n) 65527) refl refl refl
+    where
+      go : (a b d : Bool) → keepRules (numberIn p) dst src ≡ a → lengthFits (shapeBy bitsOf p .hasLength) (numberSize p + n) ≡ b
+          → leb (length (headerBytes p dst src token) + n) 65527 ≡ d → (a && b && d) ≡ true → Fit p dst src token n
+      go true true true x y z h = record { rules = x; len = y; all = leb-true _ _ z }
+      go true true false x y z h = let q : _≡_ {A = ℕ} 0 1 = cc in absurd (omega arith)
+      go true false d x y z h = let q : _≡_ {A = ℕ} 0 1 = cc in absurd (omega arith)
+      go false b d x y z h = let q : _≡_ {A = ℕ} 0 1 = cc in absurd (omega arith)
 
 module _ (p : Plain) (dst src : ConnectionId) (token payload : List ℕ) (c : CutNumber) (is : numberIn p ≡ some c)
     (t : fits p dst src token (length payload) ≡ true) where
@@ -31,13 +48,18 @@ module _ (p : Plain) (dst src : ConnectionId) (token payload : List ℕ) (c : Cu
   cuts = rw is at (kept _ _ _ (fit p dst src token (length payload) t .rules) .cut)
 
   few : shapeBy bitsOf p .hasLength ≡ true → c .0 + length payload < 2 ^ 14
-  unfolding lengthFits if_then_else_
-  few h =
-      let f : ltb (numberSize p + length payload) (2 ^ 14) ≡ true = rw h at (fit p dst src token (length payload) t .len) in
-      omega (arith, size, ltb-true (numberSize p + length payload) (2 ^ 14) f)
+  few h = omega (arith, size, length-small (shapeBy bitsOf p .hasLength) (numberSize p + length payload) h (fit p dst src token (length payload) t .len))
+
+  -- what header_write stores
+  unfoldable pub whole : List ℕ
+  whole = headerBy bitsOf (lengthField (numberSize p + length payload)) p dst src token
+
+  pub written : headerWith p dst src token (length payload) ≡ ok whole
+  unfolding headerWith whole if_then_else_
+  written = rw t
 
   pub encoded-then-set : lengthSet (length (headerBytes p dst src token)) (some (c .0)) (shapeBy bitsOf p .hasLength) (headerBytes p dst src token ++ payload)
-      ≡ ok (whole p dst src token (length payload) ++ payload)
+      ≡ ok (whole ++ payload)
   unfolding whole
   encoded-then-set =
       sets p dst src token c is (shapeBy bitsOf p .hasLength) payload refl cuts (fit p dst src token (length payload) t .all) few

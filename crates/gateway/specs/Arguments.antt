@@ -1,14 +1,10 @@
--- Arguments and answers as numbers: a flag is 0 or 1, a kind of header 0 Initial, 1 0-RTT, 2 Handshake, 3 Retry, 4 short,
--- 5 Version Negotiation (as packet's kindOf has them). What is past these is 14.
+-- Arguments and answers as numbers: a flag is 0 or 1 (frame/specs/Table `flag`), a kind of header 0 Initial, 1 0-RTT,
+-- 2 Handshake, 3 Retry, 4 short, 5 Version Negotiation (as packet's kindOf has them). What is past these is 14.
 use Prim.Native.Nat.{ℕ}
-use mathlib.Core.Bool.{Bool, true, false, not, _||_}
+use mathlib.Core.Bool.{Bool, not, _||_}
 use mathlib.Core.Option.{Option, none, some}
 use lib.Dec.{ltb, eqb}
 use Rattle.coding.specs.Words.{if_then_else_}
-
-abbrev pub flag : Bool → ℕ
-flag false = 0
-flag true = 1
 
 -- RFC 9000, 17: all but the short header are long; Retry and Version Negotiation have no packet number
 unfoldable pub longKind : ℕ → Bool

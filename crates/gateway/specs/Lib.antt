@@ -1,6 +1,5 @@
 -- In the order in which to read them.
 pub mod Arguments
 pub mod Packets
-pub mod Frames
 pub mod Numbers
 pub mod Headers

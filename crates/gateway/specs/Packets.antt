@@ -13,18 +13,14 @@ use Rattle.packet.specs.Split.{nowhere}
 use Rattle.packet.specs.Walk.{Met, ended, packet, stopped, Step, stepAt}
 use Rattle.protect.specs.Steps.{leftBy, readOff, sampleAt, Opened, finishAt, finished, done, maskAt}
 use Rattle.protect.specs.Steps as opened
-use Rattle.gateway.specs.Arguments.{flag, longKind, numberedKind, numberGiven}
-use Rattle.gateway.specs.declared.records.Span.{Span}
+use Rattle.frame.specs.Table.{flag}
+use Rattle.frame_answer.specs.Spans.{span, spanOf}
+use Rattle.frame_answer.specs.declared.records.Span.{Span}
+use Rattle.gateway.specs.Arguments.{longKind, numberedKind, numberGiven}
 use Rattle.gateway.specs.declared.records.SplitAnswer.{SplitAnswer}
 use Rattle.gateway.specs.declared.records.SampleAnswer.{SampleAnswer}
 use Rattle.gateway.specs.declared.records.UnmaskAnswer.{UnmaskAnswer}
 use Rattle.gateway.specs.declared.packets.HeaderNumbers.{HeaderNumbers}
-
-abbrev pub span : ℕ → ℕ → Span
-span start len = record { start = start; len = len }
-
-abbrev pub spanOf : Place → Span
-spanOf p = span (p .start) (p .len)
 
 -- ---- split
 

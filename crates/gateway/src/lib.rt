@@ -1,26 +1,24 @@
 // The surface that the gateway's host links: seven functions on numbers and byte slices, each over a proved crate. Every
 // argument is checked; an answer is a record by value, its refusal first; a refusal changes no lent byte.
 // include/guobbarel.h says the same to a C compiler, and what a caller owes.
-mod frames; // frames.rt: what a frame says, as a record
 mod headers; // headers.rt: a header with its Length
 mod numbers; // numbers.rt: the number ends, in and out
 mod packets; // packets.rt: what a header and what finish say, as records
 mod records; // records.rt: what goes over the surface by value
 
-pub use records::FrameAnswer;
-pub use records::FrameValue;
+pub use frame_answer::FrameAnswer;
+pub use frame_answer::FrameValue;
+pub use frame_answer::Span;
 pub use records::HeaderAnswer;
 pub use records::HeaderGiven;
 pub use records::NumberAnswer;
 pub use records::NumberEnds;
 pub use records::SampleAnswer;
-pub use records::Span;
 pub use records::SplitAnswer;
 pub use records::UnmaskAnswer;
-use shared::ConnectionId;
 ghost use mathlib.Core.Path.{_≡_};
+ghost use Rattle.frame_answer.specs.Frames.{frameFor};
 ghost use Rattle.gateway.specs.Packets.{splitFor, sampleFor, Unmasks, Masks};
-ghost use Rattle.gateway.specs.Frames.{frameFor};
 ghost use Rattle.gateway.specs.Numbers.{numberFor};
 ghost use Rattle.gateway.specs.Headers.{Writes};
 
@@ -91,7 +89,11 @@ pub extern "C" fn guobbarel_unmask(
 pub extern "C" fn guobbarel_frame_read(payload: &[u8], at: usize) -> FrameAnswer
     ensures { λ r. ⌜ r ≡ frameFor (now (payload .entry)) at ⌝ }
 {
-    frames::frame_record(at, frame::step(payload, at))
+    // PADDING comes in runs: it is answered at once, straight into the caller's memory
+    if frame_answer::is_padding(payload, at) {
+        return frame_answer::padding(at, at + 1);
+    }
+    frame_answer::read(payload, at)
 }
 
 // A step of the number ends: 0 send, 1 acknowledge, 2 read, 3 accept.
@@ -132,18 +134,14 @@ pub extern "C" fn guobbarel_header_write(
     ) {
         return headers::no_header(14);
     }
-    let to = ConnectionId::new(dst_cid);
-    let from = ConnectionId::new(src_cid);
-    let dst = to.cid;
-    let src = from.cid;
-    headers::write(
+    headers::header_record(packet_out::encode_for(
         headers::header_of(header),
-        dst,
-        src,
+        dst_cid,
+        src_cid,
         token,
         payload_len,
         out,
-    )
+    ))
 }
 
 // The mask step: header protection over a packet that is encrypted. A number_len of 0 says that there is no number. Answers the

@@ -1,9 +1,9 @@
 // Packets over the surface: what a header says as numbers, kinds by their number, and what finish answers.
 use crate::records::SampleAnswer;
-use crate::records::Span;
 use crate::records::SplitAnswer;
 use crate::records::UnmaskAnswer;
 use coding::Place;
+use frame_answer::Span;
 use packet::Decoded;
 use packet::Found;
 use packet::LongType;
@@ -17,9 +17,10 @@ use protect::SamplePlace;
 use shared::CutNumber;
 ghost use mathlib.Core.Path.{_≡_};
 ghost use lib.ListN.{length};
+ghost use Rattle.frame.specs.Table.{flag};
 ghost use Rattle.packet.specs.Said.{headerOf, outcomeOf, stepOf};
 ghost use Rattle.protect.specs.Said.{longOf, numberedOf, numberLenOf, sampleOf, finishedOf, maskedOf};
-ghost use Rattle.gateway.specs.Arguments.{flag, longKind, numberedKind, numberGiven};
+ghost use Rattle.gateway.specs.Arguments.{longKind, numberedKind, numberGiven};
 ghost use Rattle.gateway.specs.Packets.{headerHas, headerRefused, numbersOf, dstAt, srcAt, headerRecord, noPacket, stepRecord, noSample, sampleRecord, headerSpan, payloadSpan, notOpened, openedWith, unmaskRecord, maskRecord};
 
 // What a header alone has.

@@ -1,12 +1,7 @@
 // What goes over the surface by value, laid out as in C. include/guobbarel.h has the same records, field by field.
 // An answer's refusal comes first: 0 for none, else document 01's number. What an answer does not have is 0.
-
-// A part of the slice that the call was given: len bytes from start on.
-#[repr(C)]
-pub struct Span {
-    pub start: usize,
-    pub len: usize,
-}
+// A place and a frame's answer are `frame_answer`'s.
+use frame_answer::Span;
 
 // A packet of a datagram. All but `packet`, which lies in the datagram, is counted from the packet's first byte.
 #[repr(C)]
@@ -41,32 +36,6 @@ pub struct UnmaskAnswer {
     pub number_len: usize,
     pub header: Span,
     pub payload: Span,
-}
-
-// What a frame says at an index: a number, a place in the payload, or nothing.
-#[repr(C)]
-pub struct FrameValue {
-    pub kind: u8,
-    pub number: u64,
-    pub place: Span,
-}
-
-// A frame of a payload.
-#[repr(C)]
-pub struct FrameAnswer {
-    pub refusal: u8,
-    pub found: u8,
-    pub has_type: u8,
-    pub start: usize,
-    pub next: usize,
-    pub frame_type: u64,
-    pub name: u64,
-    pub value0: FrameValue,
-    pub value1: FrameValue,
-    pub value2: FrameValue,
-    pub value3: FrameValue,
-    pub value4: FrameValue,
-    pub value5: FrameValue,
 }
 
 // The two number ends of a space. A largest number counts only beside a 1.

@@ -1,16 +1,16 @@
 -- The cases of what is written, each from the tests that lead to it. Assumes nothing.
-use Prim.Native.Nat.{ℕ, _+_, _-_, _^_, _≤_, _<_}
+use Prim.Native.Nat.{ℕ, _+_, _-_, _/_, _%_, _^_, _≤_, _<_}
 use mathlib.Core.Path.{_≡_, refl, sym, ap, _∙_}
-use mathlib.Core.List.{List}
+use mathlib.Core.List.{List, _∷_, _++_}
 use mathlib.Core.Bool.{Bool, true, false, _&&_}
 use mathlib.Core.Option.{Option, none, some}
 use native.Mathlib.Omega.{arith}
-use lib.ListN.{length, length-append}
+use lib.ListN.{length, replicate, length-append}
 use lib.Dec.{leb}
-use borrow.Author.Tests.{le-leb, lt-leb, leb-true, leb-false, lt-ltb, le-ltb}
+use borrow.Author.Tests.{le-leb, lt-leb, leb-true, leb-false, ltb-true, lt-ltb, le-ltb}
 use Rattle.coding.specs.Words.{if_then_else_, Answer, no, ok}
 use Rattle.coding.specs.Refusals.{numberOf}
-use Rattle.coding.specs.Bytes.{splice}
+use Rattle.coding.specs.Bytes.{bytesBE, splice}
 use Rattle.coding.specs.Varint.{varSize}
 use Rattle.coding.specs.Said.{sizedOf}
 use Rattle.coding.specs.declared.varint.Sized.{Sized}
@@ -20,7 +20,9 @@ use Rattle.coding.specs.declared.refusal.Refusal.{Refusal}
 use Rattle.coding.proofs.Laws.{length-bytesBE, length-var}
 use Rattle.shared.specs.declared.cid.ConnectionId.{ConnectionId}
 use Rattle.shared.specs.declared.kinds.CutNumber.{CutNumber}
+use Rattle.shared.specs.Cid.{cidOf, longBytes}
 use Rattle.shared.proofs.Laws.{length-cid, length-long}
+use Rattle.shared.proofs.Back.{cid-same}
 use Rattle.number.specs.Cutting.{isCut, cutTag}
 use Rattle.number.specs.Said.{tagOf}
 use Rattle.number.specs.declared.Tagged.{Tagged}
@@ -28,7 +30,8 @@ use Rattle.number.specs.declared.Tagged.the-variants as tagged
 use Rattle.number.proofs.Windows.{cut-rule}
 use Rattle.packet.specs.TypeBits.{bitsOf}
 use Rattle.protect.specs.Tests.{numberBytes, numberFits, leastHeader, headerTests}
-use Rattle.packet_out.specs.Encoding.{Plain, Shape, namesBytes, tokenBytes, lengthBytes, numberField, shapeBytes, shapeBy, headerBy, numberKeeps, keepRules, inHeader, headerOut, headerBytes, placeholder, numberIn, numberLenIn, partialOf, Encodes}
+use Rattle.packet_out.specs.Encoding.{Plain, Shape, namesBytes, tokenBytes, lengthBytes, numberField, shapeBytes, shapeBy, headerBy, numberKeeps, keepRules, inHeader, placeholder, numberIn, numberLenIn, partialOf, EncodesAs}
+use Rattle.packet_out.specs.Before.{roomy, headerBefore, lengthFits}
 use Rattle.packet_out.specs.Length.{lengthField, lengthInto, lengthSet}
 
 -- ---- a number's rule, by what was seen of its tag
@@ -78,9 +81,34 @@ module _ (dst src : ConnectionId) (to : dst .len ≤ length (dst .bytes)) where
   unfolding namesBytes
   length-names v from = simp (length-append, length-bytesBE, length-long dst to, length-long src from) (omega arith)
 
+-- of lent connection ids
+cid-room : (bs : List ℕ) → length bs ≤ length (bs ++ replicate (20 - length bs) 0)
+cid-room bs = let zeros : List ℕ = replicate (20 - length bs) 0 in omega (arith, length-append bs zeros)
+
+module _ (dst src : List ℕ) where
+  pub lent-short : length (namesBytes none (cidOf dst) (cidOf src)) ≡ length dst
+  unfolding cidOf
+  lent-short = length-short (cidOf dst) (cidOf src) (cid-room dst)
+
+  pub lent-names : (v : ℕ) → length (namesBytes (some v) (cidOf dst) (cidOf src)) ≡ 4 + 1 + length dst + 1 + length src
+  unfolding cidOf
+  lent-names v = length-names (cidOf dst) (cidOf src) (cid-room dst) v (cid-room src)
+
+pub lent-long : (bs : List ℕ) → longBytes (cidOf bs) ≡ length bs ∷ bs
+unfolding longBytes cidOf
+lent-long bs = ap (λ (l : List ℕ). length bs ∷ l) (cid-same bs)
+
 pub length-token : (token : List ℕ) → length (tokenBytes true token) ≡ varSize (length token) + length token
 unfolding tokenBytes if_then_else_
 length-token token = simp (length-append, length-var)
+
+-- the two low bytes are those of what is below 65,536
+low-two : (x : ℕ) → bytesBE 2 x ≡ bytesBE 2 (x % 0x10000)
+unfolding bytesBE
+low-two x =
+    let a : x / 256 ^ 1 % 256 ≡ x % 0x10000 / 256 ^ 1 % 256 = omega arith in
+    let b : x / 256 ^ 0 % 256 ≡ x % 0x10000 / 256 ^ 0 % 256 = omega arith in
+    rw (a, b)
 
 -- a number that keeps its rule has at most four bytes
 pub length-number : (c : CutNumber) → length (numberField (some c)) ≡ c .0
@@ -90,6 +118,37 @@ length-number c = length-bytesBE (c .0) (c .1)
 pub cut-short : (c : CutNumber) → isCut c ≡ true → (1 ≤ c .0) × (c .0 ≤ 4)
 cut-short c e = let w = cut-rule c e .window in (w .low, w .high)
 
+-- its bytes as they are put
+module _ (c : CutNumber) where
+  pub number-one : c .0 ≡ 1 → numberField (some c) ≡ bytesBE 1 (c .1 % 0x100)
+  unfolding numberField bytesBE
+  number-one e = let x : c .1 / 256 ^ 0 % 256 ≡ c .1 % 0x100 / 256 ^ 0 % 256 = omega arith in rw (e, x)
+
+  pub number-two : c .0 ≡ 2 → numberField (some c) ≡ bytesBE 2 (c .1 % 0x10000)
+  unfolding numberField
+  number-two e = rw e (low-two (c .1))
+
+  pub number-three : c .0 ≡ 3 → numberField (some c) ≡ bytesBE 1 (c .1 / 0x10000 % 0x100) ++ bytesBE 2 (c .1 % 0x10000)
+  unfolding numberField bytesBE
+  number-three e =
+      let x : c .1 / 256 ^ 2 % 256 ≡ c .1 / 0x10000 % 0x100 / 256 ^ 0 % 256 = omega arith in
+      rw e (ap (λ (z : ℕ). z ∷ bytesBE 2 (c .1)) x ∙ ap (λ (l : List ℕ). (c .1 / 0x10000 % 0x100 / 256 ^ 0 % 256) ∷ l) (low-two (c .1)))
+
+  pub number-four : c .0 ≡ 4 → numberField (some c) ≡ bytesBE 4 (c .1)
+  unfolding numberField
+  number-four e = rw e
+
+-- a number's length, by its kind
+pub length-some : (number : Option CutNumber) → length (numberField number) ≡ numberBytes (numberLenIn number)
+unfolding numberField numberLenIn
+length-some none = refl
+length-some (some c) = length-number c
+
+pub keeps-few : (number : Option CutNumber) → numberKeeps number ≡ true → numberBytes (numberLenIn number) ≤ 4
+unfolding numberKeeps numberLenIn
+keeps-few none e = omega arith
+keeps-few (some c) e = cut-short c e .1
+
 -- a header's
 pub length-shape : (field : List ℕ) (shape : Shape) (number : Option CutNumber) (dst src : ConnectionId) (token : List ℕ)
     → length (shapeBytes field shape number dst src token)
@@ -98,6 +157,17 @@ pub length-shape : (field : List ℕ) (shape : Shape) (number : Option CutNumber
     + (length (tokenBytes (shape .hasToken) token) + (length (lengthBytes (shape .hasLength) field) + length (numberField number))))
 unfolding shapeBytes
 length-shape field shape number dst src token = simp length-append (omega arith)
+
+-- it goes by the length of what stands for the Length
+length-lengths : (b : Bool) (x y : List ℕ) → length x ≡ length y → length (lengthBytes b x) ≡ length (lengthBytes b y)
+unfolding lengthBytes if_then_else_
+length-lengths true x y e = e
+length-lengths false x y e = refl
+
+pub length-fields : (x y : List ℕ) (shape : Shape) (number : Option CutNumber) (dst src : ConnectionId) (token : List ℕ) → length x ≡ length y
+    → length (shapeBytes x shape number dst src token) ≡ length (shapeBytes y shape number dst src token)
+length-fields x y shape number dst src token e =
+    omega (arith, length-shape x shape number dst src token, length-shape y shape number dst src token, length-lengths (shape .hasLength) x y e)
 
 -- ---- at most 65,527 bytes, or 14
 
@@ -143,26 +213,28 @@ module _ (field : List ℕ) (shape : Shape) (number : Option CutNumber) (dst src
 
 -- ---- what is written of a kind, by its shape
 
-module _ (p : Plain) (dst src : ConnectionId) (token : List ℕ) (number : Option CutNumber) (en : number ≡ numberIn p) where
-  pub out-rules : keepRules number dst src ≡ false → headerOut p dst src token ≡ no 14
-  unfolding headerOut if_then_else_
+module _ (field : List ℕ) (p : Plain) (dst src : ConnectionId) (token : List ℕ) (n : ℕ) (number : Option CutNumber) (en : number ≡ numberIn p) where
+  pub out-rules : keepRules number dst src ≡ false → headerBefore field p dst src token n ≡ no 14
+  unfolding headerBefore roomy if_then_else_
   out-rules k = rw (← en, k)
 
   module _ (k : keepRules number dst src ≡ true) (shape : Shape) (es : shape ≡ shapeBy bitsOf p) where
-    same : shapeBytes placeholder shape number dst src token ≡ headerBytes p dst src token
+    same : (x : List ℕ) → shapeBytes x shape number dst src token ≡ headerBy bitsOf x p dst src token
     unfolding headerBy
-    same = rw (es, en)
+    same x = rw (es, en)
 
-    out-in : headerOut p dst src token ≡ inHeader (headerBytes p dst src token) (headerBytes p dst src token)
-    unfolding headerOut if_then_else_
-    out-in = rw (← en, k)
+    pub out-long : 65527 < length (shapeBytes placeholder shape number dst src token) + n → headerBefore field p dst src token n ≡ no 14
+    unfolding headerBefore roomy if_then_else_
+    out-long h = rw (← en, k, lt-leb _ _ (rw (same placeholder) at h))
 
-    pub out-long : 65527 < length (shapeBytes placeholder shape number dst src token) → headerOut p dst src token ≡ no 14
-    out-long h = out-in ∙ header-long _ _ (rw same at h)
+    pub out-ok : length (shapeBytes placeholder shape number dst src token) + n ≤ 65527
+        → headerBefore field p dst src token n ≡ ok (shapeBytes field shape number dst src token)
+    unfolding headerBefore roomy if_then_else_
+    out-ok h = rw (← en, k, le-leb _ _ (rw (same placeholder) at h)) (ap ok (sym (same field)))
 
-    pub out-ok : length (shapeBytes placeholder shape number dst src token) ≤ 65527
-        → headerOut p dst src token ≡ ok (shapeBytes placeholder shape number dst src token)
-    out-ok h = out-in ∙ header-fits _ _ (rw same at h) ∙ ap ok (sym same)
+    -- the Length's two bytes do not count otherwise
+    pub out-length : length field ≡ 2 → length (shapeBytes field shape number dst src token) ≡ length (shapeBytes placeholder shape number dst src token)
+    out-length e = length-fields field placeholder shape number dst src token (e ∙ sym (length-bytesBE 2 0))
 
 -- the size that was seen
 pub size-seen : (r : Sized) (g : Answer ℕ) (n : ℕ) → sizedOf r ≡ g → r ≡ sized.Bytes n → g ≡ ok n
@@ -174,15 +246,20 @@ unfolding sizedOf
 size-refused r g why e q = sym (rw q at e)
 
 -- what encode says besides the length
-module _ (p : Plain) (dst src : ConnectionId) (token : List ℕ) {old new : List ℕ} where
-  pub encodes-no : {k : ℕ} → Written (headerOut p dst src token) old (no k) new → Encodes p dst src token old (no k) new
+module _ (p : Plain) {w : Answer (List ℕ)} {old new : List ℕ} where
+  pub encodes-no : {k : ℕ} → Written w old (no k) new → EncodesAs p w old (no k) new
   unfolding partialOf
   encodes-no s = record { says = ap (partialOf p) (s .says); leaves = s .leaves }
 
-  pub encodes-ok : {n : ℕ} {l : Option ℕ} {b : Bool} → l ≡ numberLenIn (numberIn p) → b ≡ shapeBy bitsOf p .hasLength
-      → Written (headerOut p dst src token) old (ok n) new → Encodes p dst src token old (ok (record { headerLen = n; number = l; hasLength = b })) new
+  pub encodes-ok : {n : ℕ} {l : Option ℕ} {b : Bool} → l ≡ numberLenIn (numberIn p) → b ≡ shapeBy bitsOf p .hasLength → Written w old (ok n) new
+      → EncodesAs p w old (ok (record { headerLen = n; number = l; hasLength = b })) new
   unfolding partialOf
   encodes-ok el eb s = record { says = rw (el, eb) (ap (partialOf p) (s .says)); leaves = s .leaves }
+
+-- a Length that fits its two bytes
+pub length-small : (has : Bool) (n : ℕ) → has ≡ true → lengthFits has n ≡ true → n < 2 ^ 14
+unfolding lengthFits if_then_else_
+length-small has n e h = ltb-true n (2 ^ 14) (rw e at h)
 
 -- ---- the Length step
 

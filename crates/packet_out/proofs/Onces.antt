@@ -11,6 +11,10 @@ use Rattle.packet_out.proofs.header.Header.number as number
 use Rattle.packet_out.proofs.header.Header.number.Reads as number-reads
 use Rattle.packet_out.proofs.encode as encode
 use Rattle.packet_out.proofs.encode.Reads as encode-reads
+use Rattle.packet_out.proofs.encode_for as encode-for
+use Rattle.packet_out.proofs.encode_for.Reads as encode-for-reads
+use Rattle.packet_out.proofs.bytes_of as bytes-of
+use Rattle.packet_out.proofs.bytes_of.Reads as bytes-of-reads
 use Rattle.packet_out.proofs.set_length as set-length
 use Rattle.packet_out.proofs.set_length.Reads as set-length-reads
 
@@ -21,6 +25,14 @@ number-once κs a x y s t p q = cut-one x y _ p q
 encode-once : Once {B = Encoded × List ℕ} encode.ended encode-reads.Post (λ κs x s. (x, now (s .1 .1 .1 .1 .0)))
 unfolding Once
 encode-once κs a x y s t p q i = (encoded-one x y _ (p .says) (q .says) i, (p .leaves ∙ sym (q .leaves)) i)
+
+encode-for-once : Once {B = Encoded × List ℕ} encode-for.ended encode-for-reads.Post (λ κs x s. (x, now (s .1 .1 .1 .1 .1 .0)))
+unfolding Once
+encode-for-once κs a x y s t p q i = (encoded-one x y _ (p .says) (q .says) i, (p .leaves ∙ sym (q .leaves)) i)
+
+bytes-of-once : Once bytes-of.ended bytes-of-reads.Post (λ κs x s. x)
+unfolding Once
+bytes-of-once κs a x y s t p q = p ∙ sym q
 
 set-length-once : Once {B = LengthSet × List ℕ} set-length.ended set-length-reads.Post (λ κs x s. (x, now (s .1 .1 .1 .0)))
 unfolding Once

@@ -1,5 +1,5 @@
 -- The runs of puts: what each leaves room for, and that together they put the whole. Assumes nothing.
-use Prim.Native.Nat.{ℕ, _+_, _≤_, _<_}
+use Prim.Native.Nat.{ℕ, _+_, _/_, _%_, _≤_, _<_}
 use mathlib.Core.Path.{_≡_}
 use mathlib.Core.List.{List, [], _∷_, _++_, append-assoc}
 use mathlib.Core.Option.{Option, some}
@@ -7,14 +7,14 @@ use native.Mathlib.Omega.{arith}
 use lib.ListN.{length, length-append}
 use Rattle.coding.specs.Bytes.{bytesBE}
 use Rattle.coding.specs.Writing.{Put}
-use Rattle.coding.proofs.Laws.{length-splice}
+use Rattle.coding.proofs.Laws.{length-splice, length-bytesBE}
 use Rattle.coding.proofs.Writes.{So, put-fits, put-so, so-put}
-use Rattle.shared.specs.Cid.{longBytes, longPut}
+use Rattle.shared.specs.Cid.{cidOf, longBytes}
 use Rattle.shared.specs.declared.cid.ConnectionId.{ConnectionId}
 use Rattle.shared.specs.declared.kinds.CutNumber.{CutNumber}
-use Rattle.shared.proofs.Laws.{one-byte, long-some}
+use Rattle.shared.proofs.Laws.{one-byte}
 use Rattle.packet_out.specs.Encoding.{Shape, namesBytes, tokenBytes, lengthBytes, numberField, shapeBytes}
-use Rattle.packet_out.proofs.Laws.{length-shape}
+use Rattle.packet_out.proofs.Laws.{length-shape, length-number, number-one, number-two, number-three, number-four, lent-long}
 
 -- where a run of puts stands: its place, and a buffer as long as before
 pub record Stands (old bs : List ℕ) (at r : ℕ) (new : List ℕ) : Type 0 where
@@ -27,18 +27,69 @@ stands {old} {bs} {new} {at} s h = record { place = s .place; long = rw (s .byte
 run-five : (a b d e f : List ℕ) → (((a ++ b) ++ d) ++ e) ++ f ≡ a ++ (b ++ (d ++ (e ++ f)))
 run-five a b d e f = simp append-assoc
 
+-- ---- a connection id behind its length
+
+module _ (bs : List ℕ) {old m₁ : List ℕ} {at r₁ : ℕ} (few : length bs ≤ 20) (room : at + length (longBytes (cidOf bs)) ≤ length old)
+    (p : Put (bytesBE 1 (length bs)) old at r₁ m₁) where
+  long-room : at + (1 + length bs) ≤ length old
+  long-room = let r = rw (lent-long bs) at room in omega (arith, r)
+
+  at-bytes : So old at (length bs ∷ []) r₁ m₁
+  at-bytes = put-so _ _ _ (omega (arith, long-room)) (rw (one-byte (length bs) (omega (arith, few))) at p)
+
+  pub bytes-room : r₁ + length bs ≤ length m₁
+  bytes-room = let s = stands at-bytes (omega (arith, long-room)) in omega (arith, s, long-room)
+
+  pub long-run : {new : List ℕ} {next : ℕ} → Put bs m₁ r₁ next new → Put (longBytes (cidOf bs)) old at next new
+  long-run q = rw (lent-long bs) (put-fits _ _ _ (omega (arith, long-room)) (so-put at-bytes (omega (arith, long-room)) q))
+
+-- ---- a number, by its length
+
+module _ (c : CutNumber) {old new : List ℕ} {at next : ℕ} where
+  pub number-run-one : c .0 ≡ 1 → Put (bytesBE 1 (c .1 % 0x100)) old at next new → Put (numberField (some c)) old at next new
+  number-run-one e p = rw (number-one c e) p
+
+  pub number-run-two : c .0 ≡ 2 → Put (bytesBE 2 (c .1 % 0x10000)) old at next new → Put (numberField (some c)) old at next new
+  number-run-two e p = rw (number-two c e) p
+
+  pub number-run-four : c .0 ≡ 4 → Put (bytesBE 4 (c .1)) old at next new → Put (numberField (some c)) old at next new
+  number-run-four e p = rw (number-four c e) p
+
+pub number-run-three : (c : CutNumber) → c .0 ≡ 3 → {old mid new : List ℕ} {at r next : ℕ} → at + length (numberField (some c)) ≤ length old
+    → Put (bytesBE 1 (c .1 / 0x10000 % 0x100)) old at r mid → Put (bytesBE 2 (c .1 % 0x10000)) mid r next new → Put (numberField (some c)) old at next new
+number-run-three c e room p q =
+    let a = length-bytesBE 1 (c .1 / 0x10000 % 0x100) in
+    let b = length-bytesBE 2 (c .1 % 0x10000) in
+    let l = length-number c in
+    rw (number-three c e) (put-fits _ _ _ (rw (number-three c e) at room) (so-put (put-so _ _ _ (omega (arith, room, e, l, a)) p) (omega (arith, room, e, l, a, b)) q))
+
 -- ---- the version and both connection ids
 
-pub names-run : (version : ℕ) (dst src : ConnectionId) {old m₁ m₂ new : List ℕ} {at r₁ r₂ next : ℕ} → dst .len ≤ 20 → src .len ≤ 20
-    → at + length (namesBytes (some version) dst src) ≤ length old
-    → Put (bytesBE 4 version) old at r₁ m₁ → Put (longPut dst) m₁ r₁ r₂ m₂ → Put (longPut src) m₂ r₂ next new
-    → Put (namesBytes (some version) dst src) old at next new
-unfolding namesBytes
-names-run version dst src to from f p q r =
-    let l : length (bytesBE 4 version ++ (longBytes dst ++ longBytes src)) ≡ length (bytesBE 4 version) + (length (longBytes dst) + length (longBytes src)) = simp length-append in
-    let s = so-put (put-so _ _ _ (omega (arith, f, l)) p) (omega (arith, f, l)) (rw (long-some dst to) at q) in
-    let m : length (bytesBE 4 version ++ longBytes dst) ≡ length (bytesBE 4 version) + length (longBytes dst) = length-append (bytesBE 4 version) (longBytes dst) in
-    put-fits _ _ _ f (rw append-assoc at (so-put s (omega (arith, f, l, m)) (rw (long-some src from) at r)))
+module _ (version : ℕ) (dst src : ConnectionId) {old m₁ : List ℕ} {at r₁ : ℕ} (room : at + length (namesBytes (some version) dst src) ≤ length old)
+    (p : Put (bytesBE 4 version) old at r₁ m₁) where
+  names-long : length (namesBytes (some version) dst src) ≡ length (bytesBE 4 version) + (length (longBytes dst) + length (longBytes src))
+  unfolding namesBytes
+  names-long = simp length-append
+
+  at-dst : So old at (bytesBE 4 version) r₁ m₁
+  at-dst = put-so _ _ _ (omega (arith, room, names-long)) p
+
+  pub dst-room : r₁ + length (longBytes dst) ≤ length m₁
+  dst-room = let s = stands at-dst (omega (arith, room, names-long)) in omega (arith, s, room, names-long)
+
+  module _ {m₂ : List ℕ} {r₂ : ℕ} (q : Put (longBytes dst) m₁ r₁ r₂ m₂) where
+    at-src : So old at (bytesBE 4 version ++ longBytes dst) r₂ m₂
+    at-src = so-put at-dst (omega (arith, room, names-long)) q
+
+    both : length (bytesBE 4 version ++ longBytes dst) ≡ length (bytesBE 4 version) + length (longBytes dst)
+    both = length-append (bytesBE 4 version) (longBytes dst)
+
+    pub src-room : r₂ + length (longBytes src) ≤ length m₂
+    src-room = let s = stands at-src (omega (arith, room, names-long, both)) in omega (arith, s, room, names-long, both)
+
+    pub names-run : {new : List ℕ} {next : ℕ} → Put (longBytes src) m₂ r₂ next new → Put (namesBytes (some version) dst src) old at next new
+    unfolding namesBytes
+    names-run r = put-fits _ _ _ room (rw append-assoc at (so-put at-src (omega (arith, room, names-long, both)) r))
 
 -- ---- five puts, one after the other
 
@@ -60,7 +111,7 @@ module _ (a b d e f : List ℕ) {old m₁ : List ℕ} {r₁ : ℕ}
     pub after-two : r₂ + length d ≤ length m₂
     after-two = let s = stands two (omega (arith, fits, two-long)) in omega (arith, s, fits, two-long)
 
-    module _ {m₃ m₄ new : List ℕ} {r₃ r₄ next : ℕ} (t : Put d m₂ r₂ r₃ m₃) (l : Put e m₃ r₃ r₄ m₄) (n : Put f m₄ r₄ next new) where
+    module _ {m₃ m₄ : List ℕ} {r₃ r₄ : ℕ} (t : Put d m₂ r₂ r₃ m₃) (l : Put e m₃ r₃ r₄ m₄) where
       three-long : length ((a ++ b) ++ d) ≡ length a + length b + length d
       three-long = simp length-append (omega arith)
 
@@ -70,11 +121,14 @@ module _ (a b d e f : List ℕ) {old m₁ : List ℕ} {r₁ : ℕ}
       all-long : length (a ++ (b ++ (d ++ (e ++ f)))) ≡ length a + (length b + (length d + (length e + length f)))
       all-long = simp length-append
 
-      pub after-five : Put (a ++ (b ++ (d ++ (e ++ f)))) old 0 next new
-      after-five =
-          let three = so-put two (omega (arith, fits, two-long)) t in
-          let four = so-put three (omega (arith, fits, three-long)) l in
-          put-fits _ _ _ (omega (arith, fits, all-long)) (rw (run-five a b d e f) at (so-put four (omega (arith, fits, four-long)) n))
+      four : So old 0 (((a ++ b) ++ d) ++ e) r₄ m₄
+      four = so-put (so-put two (omega (arith, fits, two-long)) t) (omega (arith, fits, three-long)) l
+
+      pub after-four : r₄ + length f ≤ length m₄
+      after-four = let s = stands four (omega (arith, fits, four-long)) in omega (arith, s, fits, four-long)
+
+      pub after-five : {new : List ℕ} {next : ℕ} → Put f m₄ r₄ next new → Put (a ++ (b ++ (d ++ (e ++ f)))) old 0 next new
+      after-five n = put-fits _ _ _ (omega (arith, fits, all-long)) (rw (run-five a b d e f) at (so-put four (omega (arith, fits, four-long)) n))
 
 -- ---- the whole header
 
@@ -94,7 +148,10 @@ module _ (field : List ℕ) (shape : Shape) (number : Option CutNumber) (dst src
     pub token-room : r₂ + length (tokenBytes (shape .hasToken) token) ≤ length m₂
     token-room = after-two (shape .first ∷ []) (namesBytes (shape .version) dst src) (tokenBytes (shape .hasToken) token) (lengthBytes (shape .hasLength) field) (numberField number) fits first q
 
-    pub header-put : {m₃ m₄ new : List ℕ} {r₃ r₄ next : ℕ} → Put (tokenBytes (shape .hasToken) token) m₂ r₂ r₃ m₃ → Put (lengthBytes (shape .hasLength) field) m₃ r₃ r₄ m₄
-        → Put (numberField number) m₄ r₄ next new → Put (shapeBytes field shape number dst src token) old 0 next new
-    unfolding shapeBytes
-    header-put t l n = after-five (shape .first ∷ []) (namesBytes (shape .version) dst src) (tokenBytes (shape .hasToken) token) (lengthBytes (shape .hasLength) field) (numberField number) fits first q t l n
+    module _ {m₃ m₄ : List ℕ} {r₃ r₄ : ℕ} (t : Put (tokenBytes (shape .hasToken) token) m₂ r₂ r₃ m₃) (l : Put (lengthBytes (shape .hasLength) field) m₃ r₃ r₄ m₄) where
+      pub number-room : r₄ + length (numberField number) ≤ length m₄
+      number-room = after-four (shape .first ∷ []) (namesBytes (shape .version) dst src) (tokenBytes (shape .hasToken) token) (lengthBytes (shape .hasLength) field) (numberField number) fits first q t l
+
+      pub header-put : {new : List ℕ} {next : ℕ} → Put (numberField number) m₄ r₄ next new → Put (shapeBytes field shape number dst src token) old 0 next new
+      unfolding shapeBytes
+      header-put n = after-five (shape .first ∷ []) (namesBytes (shape .version) dst src) (tokenBytes (shape .hasToken) token) (lengthBytes (shape .hasLength) field) (numberField number) fits first q t l n

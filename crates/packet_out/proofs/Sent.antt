@@ -26,7 +26,7 @@ use Rattle.protect.specs.Steps.{openedBy}
 use Rattle.packet_out.specs.Encoding.{Plain, initial, zeroRtt, handshake, retry, short, negotiate, numberIn, bit, lowBits, longFirst, shortFirst, shapeBy, shapeBytes, namesBytes, tokenBytes, lengthBytes, numberField, headerBy, headerBytes, placeholder}
 use Rattle.packet_out.specs.Length.{lengthField, lengthSet}
 use Rattle.packet_out.specs.Back.{openedAs}
-use Rattle.packet_out.proofs.Laws.{cut-short, length-shape, length-number, set-none, set-on, into-ok}
+use Rattle.packet_out.proofs.Laws.{cut-short, length-shape, length-fields, length-number, set-none, set-on, into-ok}
 use Rattle.packet_out.proofs.Back.{Steers, upTo, bit-small}
 use Rattle.packet.proofs.Types.{table}
 
@@ -43,11 +43,6 @@ pub length-field : (n : ℕ) → length (lengthField n) ≡ 2
 unfolding lengthField
 length-field n = length-bytesBE 2 (2 ^ 14 + n)
 
-length-lengths : (b : Bool) (x y : List ℕ) → length x ≡ length y → length (lengthBytes b x) ≡ length (lengthBytes b y)
-unfolding lengthBytes if_then_else_
-length-lengths true x y e = e
-length-lengths false x y e = refl
-
 module _ (p : Plain) (dst src : ConnectionId) (token : List ℕ) where
   -- before the Length, and before the number
   before : List ℕ
@@ -62,7 +57,7 @@ module _ (p : Plain) (dst src : ConnectionId) (token : List ℕ) where
   unfolding before headerBy shapeBytes lengthBytes if_then_else_
   with-length field h = rw h (ap (λ (l : List ℕ). shapeBy bitsOf p .first ∷ l) (simp append-assoc))
 
-  without : (x y : List ℕ) → shapeBy bitsOf p .hasLength ≡ false → headerBy bitsOf x p dst src token ≡ headerBy bitsOf y p dst src token
+  pub without : (x y : List ℕ) → shapeBy bitsOf p .hasLength ≡ false → headerBy bitsOf x p dst src token ≡ headerBy bitsOf y p dst src token
   unfolding headerBy shapeBytes lengthBytes if_then_else_
   without x y h = rw h
 
@@ -73,13 +68,7 @@ module _ (p : Plain) (dst src : ConnectionId) (token : List ℕ) where
   -- lengths
   pub length-header : (x y : List ℕ) → length x ≡ length y → length (headerBy bitsOf x p dst src token) ≡ length (headerBy bitsOf y p dst src token)
   unfolding headerBy
-  length-header x y e =
-      omega (
-        arith,
-        length-shape x (shapeBy bitsOf p) (numberIn p) dst src token,
-        length-shape y (shapeBy bitsOf p) (numberIn p) dst src token,
-        length-lengths (shapeBy bitsOf p .hasLength) x y e,
-      )
+  length-header x y = length-fields x y (shapeBy bitsOf p) (numberIn p) dst src token
 
   module _ (c : CutNumber) (is : numberIn p ≡ some c) where
     pub number-len : length (numberField (numberIn p)) ≡ c .0

@@ -147,7 +147,10 @@ unfoldable pub partialOf : Plain → Answer ℕ → Answer Partial
 partialOf p (no k) = no k
 partialOf p (ok n) = ok (record { headerLen = n; number = numberLenIn (numberIn p); hasLength = shapeBy bitsOf p .hasLength })
 
--- encode of a header into the buffer `old` says `said` and leaves `new`
-pub record Encodes (p : Plain) (dst src : ConnectionId) (token old : List ℕ) (said : Answer Partial) (new : List ℕ) : Type 0 where
-  pub says : said ≡ partialOf p (lengthOf (inRoom (length old) (headerOut p dst src token)))
-  pub leaves : new ≡ intoBuffer (inRoom (length old) (headerOut p dst src token)) old
+-- writing w for the header p into the buffer `old` says `said` and leaves `new`
+pub record EncodesAs (p : Plain) (w : Answer (List ℕ)) (old : List ℕ) (said : Answer Partial) (new : List ℕ) : Type 0 where
+  pub says : said ≡ partialOf p (lengthOf (inRoom (length old) w))
+  pub leaves : new ≡ intoBuffer (inRoom (length old) w) old
+
+abbrev pub Encodes : Plain → ConnectionId → ConnectionId → List ℕ → List ℕ → Answer Partial → List ℕ → Type 0
+Encodes p dst src token = EncodesAs p (headerOut p dst src token)

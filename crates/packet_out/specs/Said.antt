@@ -4,12 +4,12 @@ use mathlib.Core.List.{List}
 use mathlib.Core.Option.{Option, none, some}
 use Rattle.coding.specs.Words.{Answer, no, ok}
 use Rattle.coding.specs.Refusals.{numberOf}
-use Rattle.shared.specs.declared.cid.ConnectionId.{ConnectionId}
+use Rattle.shared.specs.Cid.{cidOf}
 use Rattle.shared.specs.declared.kinds.CutNumber.{CutNumber}
 use Rattle.packet.specs.declared.header.LongType.{LongType}
 use Rattle.packet.specs.declared.header.LongType.the-variants as ty
 use Rattle.protect.specs.Said.{numberLenOf}
-use Rattle.packet_out.specs.Encoding.{Plain, initial, zeroRtt, handshake, retry, short, negotiate, Shape, shapeBytes, placeholder, Partial}
+use Rattle.packet_out.specs.Encoding.{Plain, initial, zeroRtt, handshake, retry, short, negotiate, Shape, shapeBytes, Partial}
 use Rattle.packet_out.specs.declared.header.Header.{Header}
 use Rattle.packet_out.specs.declared.header.Header.the-variants as head
 use Rattle.packet_out.specs.declared.header.HeaderNumber.{HeaderNumber}
@@ -46,9 +46,9 @@ versionOf ver.Short = none
 unfoldable pub shapeOf : Form → Shape
 shapeOf f = record { first = f .first; version = versionOf (f .version); hasToken = f .«has_token»; hasLength = f .«has_length» }
 
--- the bytes of a header by its form
-abbrev pub formBytes : Form → HeaderNumber → ConnectionId → ConnectionId → List ℕ → List ℕ
-formBytes f number = shapeBytes placeholder (shapeOf f) (cutOf number)
+-- the bytes of a header by its form, over lent connection ids, with these bytes for its Length
+abbrev pub formBytes : List ℕ → Form → HeaderNumber → List ℕ → List ℕ → List ℕ → List ℕ
+formBytes field f number dst src = shapeBytes field (shapeOf f) (cutOf number) (cidOf dst) (cidOf src)
 
 unfoldable pub partOf : PartialEncode → Partial
 partOf p = record { headerLen = p .«header_len»; number = numberLenOf (p .number); hasLength = p .«has_length» }

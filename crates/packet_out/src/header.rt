@@ -1,5 +1,4 @@
 // The header that is to be written, without its connection ids and its token (packet.rs, Header; RFC 9000, 17).
-use number::Tagged;
 use packet::LongHeaderType;
 use packet::LongType;
 use shared::CutNumber;
@@ -78,6 +77,30 @@ impl Header {
     }
 }
 
+// Whether a header has a Length.
+pub(crate) fn has_length(header: Header) -> bool
+    ensures { λ r. ⌜ r ≡ shapeBy bitsOf (plainOf header) .hasLength ⌝ }
+{
+    match header {
+        Header::Initial {
+            number: _,
+            version: _,
+        } => true,
+        Header::Long {
+            ty: _,
+            number: _,
+            version: _,
+        } => true,
+        Header::Retry { version: _ } => false,
+        Header::Short {
+            spin: _,
+            key_phase: _,
+            number: _,
+        } => false,
+        Header::VersionNegotiate { random: _ } => false,
+    }
+}
+
 // A long header's first byte, its four low bits clear.
 fn long_first(ty: LongHeaderType) -> u8
     ensures { λ r. ⌜ (r ≡ longFirst (bitsOf (longTypeOf ty))) × (r ≤ 0xf0) ⌝ }
@@ -110,10 +133,7 @@ fn low_bits(c: CutNumber) -> u8
     requires { ⌜ isCut c ≡ true ⌝ }
     ensures { λ r. ⌜ (r ≡ lowBits c) × (r ≤ 3) ⌝ }
 {
-    let Tagged::Tag(tag) = number::tag(c) else {
-        return 0;
-    };
-    tag
+    (c.0 - 1) as u8
 }
 
 // A long header's form.

@@ -13,16 +13,20 @@ use header::Version;
 use number::Tagged;
 use protect::NumberLen;
 use shared::ConnectionId;
+use shared::MAX_CID_SIZE;
 ghost use mathlib.Core.Path.{_≡_};
 ghost use mathlib.Core.Bool.{true};
 ghost use Prim.Native.Nat.{_+_, _≤_};
 ghost use lib.ListN.{length};
+ghost use Rattle.coding.specs.Bytes.{bytesBE};
 ghost use Rattle.coding.specs.Said.{sizedOf};
 ghost use Rattle.coding.specs.Writing.{Put};
+ghost use Rattle.shared.specs.Cid.{cidOf, longBytes};
 ghost use Rattle.protect.specs.Said.{numberLenOf};
 ghost use Rattle.protect.specs.Tests.{numberBytes};
-ghost use Rattle.packet_out.specs.Encoding.{Encodes, namesBytes, tokenBytes, lengthBytes, numberField, placeholder, numberKeeps, keepRules, numberLenIn, inHeader};
+ghost use Rattle.packet_out.specs.Encoding.{Encodes, EncodesAs, namesBytes, tokenBytes, lengthBytes, numberField, placeholder, numberKeeps, keepRules, numberLenIn, inHeader};
 ghost use Rattle.packet_out.specs.Length.{PutsLength, SetsLength};
+ghost use Rattle.packet_out.specs.Before.{headerBefore, lengthFits, fieldFor, EncodesFor};
 ghost use Rattle.packet_out.specs.Said.{plainOf, cutOf, versionOf, formBytes, encodedOf, setOf};
 
 // What a header was written with: its length, its number's, and whether a Length is to be set.
@@ -58,28 +62,26 @@ fn number_keeps(number: HeaderNumber) -> bool
 }
 
 // Whether the connection ids and the number keep their rules.
-fn keep_rules(number: HeaderNumber, dst_cid: ConnectionId, src_cid: ConnectionId) -> bool
-    ensures { λ r. ⌜ r ≡ keepRules (cutOf number) «dst_cid» «src_cid» ⌝ }
+fn keep_rules(number: HeaderNumber, dst_cid: &[u8], src_cid: &[u8]) -> bool
+    ensures { λ r. ⌜ r ≡ keepRules (cutOf number) (cidOf (now («dst_cid» .entry))) (cidOf (now («src_cid» .entry))) ⌝ }
 {
-    if 20 < dst_cid.len {
+    if MAX_CID_SIZE < dst_cid.len() {
         return false;
     }
-    if 20 < src_cid.len {
+    if MAX_CID_SIZE < src_cid.len() {
         return false;
     }
     number_keeps(number)
 }
 
 // The bytes of the version and the connection ids.
-fn names_size(version: Version, dst_cid: ConnectionId, src_cid: ConnectionId) -> usize
-    requires { ⌜ («dst_cid» .len ≤ 20) × («src_cid» .len ≤ 20) ⌝ }
-    ensures { λ r. ⌜ (r ≡ length (namesBytes (versionOf version) «dst_cid» «src_cid»)) × (r ≤ 46) ⌝ }
+fn names_size(version: Version, dst_cid: &[u8], src_cid: &[u8]) -> usize
+    requires { ⌜ (length (now «dst_cid») ≤ 20) × (length (now «src_cid») ≤ 20) ⌝ }
+    ensures { λ r. ⌜ (r ≡ length (namesBytes (versionOf version) (cidOf (now («dst_cid» .entry))) (cidOf (now («src_cid» .entry))))) × (r ≤ 46) ⌝ }
 {
-    let to = dst_cid.len as usize;
-    let from = src_cid.len as usize;
     match version {
-        Version::Long(_) => 4 + 1 + to + 1 + from,
-        Version::Short => to,
+        Version::Long(_) => 4 + 1 + dst_cid.len() + 1 + src_cid.len(),
+        Version::Short => dst_cid.len(),
     }
 }
 
@@ -90,10 +92,9 @@ fn length_size(has_length: bool) -> usize
     if has_length { 2 } else { 0 }
 }
 
-// The bytes of a number.
+// The bytes of a number; none where there is no number.
 fn number_size(number: HeaderNumber) -> usize
-    requires { ⌜ numberKeeps (cutOf number) ≡ true ⌝ }
-    ensures { λ r. ⌜ (r ≡ length (numberField (cutOf number))) × (r ≤ 4) ⌝ }
+    ensures { λ r. ⌜ r ≡ numberBytes (numberLenIn (cutOf number)) ⌝ }
 {
     match number {
         HeaderNumber::Cut(c) => c.0,
@@ -102,14 +103,9 @@ fn number_size(number: HeaderNumber) -> usize
 }
 
 // The bytes of a header without its token.
-fn fixed_size(
-    form: Form,
-    number: HeaderNumber,
-    dst_cid: ConnectionId,
-    src_cid: ConnectionId,
-) -> usize
-    requires { ⌜ keepRules (cutOf number) «dst_cid» «src_cid» ≡ true ⌝ }
-    ensures { λ r. ⌜ (r ≡ 1 + (length (namesBytes (versionOf (form .version)) «dst_cid» «src_cid») + (length (lengthBytes (form .«has_length») placeholder) + length (numberField (cutOf number))))) × (r ≤ 53) ⌝ }
+fn fixed_size(form: Form, number: HeaderNumber, dst_cid: &[u8], src_cid: &[u8]) -> usize
+    requires { ⌜ keepRules (cutOf number) (cidOf (now «dst_cid»)) (cidOf (now «src_cid»)) ≡ true ⌝ }
+    ensures { λ r. ⌜ (r ≡ 1 + (length (namesBytes (versionOf (form .version)) (cidOf (now («dst_cid» .entry))) (cidOf (now («src_cid» .entry)))) + (length (lengthBytes (form .«has_length») placeholder) + length (numberField (cutOf number))))) × (r ≤ 53) ⌝ }
 {
     let version = form.version;
     let names = names_size(version, dst_cid, src_cid);
@@ -117,15 +113,9 @@ fn fixed_size(
 }
 
 // The bytes of a header, or 14 past 65,527.
-fn size(
-    form: Form,
-    number: HeaderNumber,
-    dst_cid: ConnectionId,
-    src_cid: ConnectionId,
-    token: &[u8],
-) -> Sized
-    requires { ⌜ keepRules (cutOf number) «dst_cid» «src_cid» ≡ true ⌝ }
-    ensures { λ r. ⌜ sizedOf r ≡ inHeader (formBytes form number «dst_cid» «src_cid» (now (token .entry))) (length (formBytes form number «dst_cid» «src_cid» (now (token .entry)))) ⌝ }
+fn size(form: Form, number: HeaderNumber, dst_cid: &[u8], src_cid: &[u8], token: &[u8]) -> Sized
+    requires { ⌜ keepRules (cutOf number) (cidOf (now «dst_cid»)) (cidOf (now «src_cid»)) ≡ true ⌝ }
+    ensures { λ r. ⌜ sizedOf r ≡ inHeader (formBytes placeholder form number (now («dst_cid» .entry)) (now («src_cid» .entry)) (now (token .entry))) (length (formBytes placeholder form number (now («dst_cid» .entry)) (now («src_cid» .entry)) (now (token .entry)))) ⌝ }
 {
     let fixed = fixed_size(form, number, dst_cid, src_cid);
     if !form.has_token {
@@ -144,23 +134,39 @@ fn size(
     Sized::Bytes(all)
 }
 
+// Puts bytes where they fit: no test is made again.
+fn put_bytes(bytes: &[u8], buf: &mut [u8], at: usize) -> usize
+    requires { ⌜ at + length (now bytes) ≤ length (now buf) ⌝ }
+    ensures { λ r. ⌜ Put (now (bytes .entry)) (now (buf .entry)) at r (now (buf .exit)) ⌝ }
+{
+    let mut i = 0;
+    while i < bytes.len() {
+        buf[at + i] = bytes[i];
+        i += 1;
+    }
+    at + i
+}
+
+// Puts a connection id behind its length.
+fn put_long(cid: &[u8], buf: &mut [u8], at: usize) -> usize
+    requires { ⌜ (length (now cid) ≤ 20) × (at + length (longBytes (cidOf (now cid))) ≤ length (now buf)) ⌝ }
+    ensures { λ r. ⌜ Put (longBytes (cidOf (now (cid .entry)))) (now (buf .entry)) at r (now (buf .exit)) ⌝ }
+{
+    let next = coding::put_u8(buf, at, cid.len() as u8);
+    put_bytes(cid, buf, next)
+}
+
 // Puts the version and both connection ids, or a short header's one.
-fn put_names(
-    version: Version,
-    dst_cid: ConnectionId,
-    src_cid: ConnectionId,
-    buf: &mut [u8],
-    at: usize,
-) -> usize
-    requires { ⌜ ((«dst_cid» .len ≤ 20) × («src_cid» .len ≤ 20)) × (at + length (namesBytes (versionOf version) «dst_cid» «src_cid») ≤ length (now buf)) ⌝ }
-    ensures { λ r. ⌜ Put (namesBytes (versionOf version) «dst_cid» «src_cid») (now (buf .entry)) at r (now (buf .exit)) ⌝ }
+fn put_names(version: Version, dst_cid: &[u8], src_cid: &[u8], buf: &mut [u8], at: usize) -> usize
+    requires { ⌜ ((length (now «dst_cid») ≤ 20) × (length (now «src_cid») ≤ 20)) × (at + length (namesBytes (versionOf version) (cidOf (now «dst_cid»)) (cidOf (now «src_cid»))) ≤ length (now buf)) ⌝ }
+    ensures { λ r. ⌜ Put (namesBytes (versionOf version) (cidOf (now («dst_cid» .entry))) (cidOf (now («src_cid» .entry)))) (now (buf .entry)) at r (now (buf .exit)) ⌝ }
 {
     let Version::Long(number) = version else {
-        return dst_cid.put_bytes(buf, at);
+        return put_bytes(dst_cid, buf, at);
     };
     let to = coding::put_u32(buf, at, number);
-    let from = dst_cid.put_long(buf, to);
-    src_cid.put_long(buf, from)
+    let from = put_long(dst_cid, buf, to);
+    put_long(src_cid, buf, from)
 }
 
 // Puts a token behind its length.
@@ -172,46 +178,58 @@ fn put_token(has_token: bool, token: &[u8], buf: &mut [u8], at: usize) -> usize
         return at;
     }
     let next = coding::write_var(buf, at, token.len() as u64);
-    coding::put_slice(buf, next, token)
+    put_bytes(token, buf, next)
 }
 
-// Puts two bytes that keep the Length's place.
-fn put_placeholder(has_length: bool, buf: &mut [u8], at: usize) -> usize
-    ensures { λ r. ⌜ Put (lengthBytes «has_length» placeholder) (now (buf .entry)) at r (now (buf .exit)) ⌝ }
+// Puts the Length's two bytes.
+fn put_length(has_length: bool, field: u16, buf: &mut [u8], at: usize) -> usize
+    ensures { λ r. ⌜ Put (lengthBytes «has_length» (bytesBE 2 field)) (now (buf .entry)) at r (now (buf .exit)) ⌝ }
 {
     if !has_length {
         return at;
     }
-    coding::put_u16(buf, at, 0)
+    coding::put_u16(buf, at, field)
 }
 
+// Puts a number's bytes, with a store for each length.
 fn put_number(number: HeaderNumber, buf: &mut [u8], at: usize) -> usize
-    requires { ⌜ numberKeeps (cutOf number) ≡ true ⌝ }
+    requires { ⌜ (numberKeeps (cutOf number) ≡ true) × (at + length (numberField (cutOf number)) ≤ length (now buf)) ⌝ }
     ensures { λ r. ⌜ Put (numberField (cutOf number)) (now (buf .entry)) at r (now (buf .exit)) ⌝ }
 {
     let HeaderNumber::Cut(c) = number else {
         return at;
     };
-    number::put(c, buf, at)
+    let k = c.0;
+    let x = c.1;
+    match k {
+        1 => coding::put_u8(buf, at, (x % 0x100) as u8),
+        2 => coding::put_u16(buf, at, (x % 0x1_0000) as u16),
+        3 => {
+            let next = coding::put_u8(buf, at, (x / 0x1_0000 % 0x100) as u8);
+            coding::put_u16(buf, next, (x % 0x1_0000) as u16)
+        }
+        _ => coding::put_u32(buf, at, x),
+    }
 }
 
-// Puts a header that fits from byte 0 on.
+// Puts a header that fits from byte 0 on, with these two bytes for its Length.
 fn put_header(
     form: Form,
     number: HeaderNumber,
-    dst_cid: ConnectionId,
-    src_cid: ConnectionId,
+    field: u16,
+    dst_cid: &[u8],
+    src_cid: &[u8],
     token: &[u8],
     buf: &mut [u8],
 ) -> usize
-    requires { ⌜ (keepRules (cutOf number) «dst_cid» «src_cid» ≡ true) × ((length (formBytes form number «dst_cid» «src_cid» (now token)) ≤ 65527) × (length (formBytes form number «dst_cid» «src_cid» (now token)) ≤ length (now buf))) ⌝ }
-    ensures { λ r. ⌜ Put (formBytes form number «dst_cid» «src_cid» (now (token .entry))) (now (buf .entry)) 0 r (now (buf .exit)) ⌝ }
+    requires { ⌜ (keepRules (cutOf number) (cidOf (now «dst_cid»)) (cidOf (now «src_cid»)) ≡ true) × ((length (formBytes (bytesBE 2 field) form number (now «dst_cid») (now «src_cid») (now token)) ≤ 65527) × (length (formBytes (bytesBE 2 field) form number (now «dst_cid») (now «src_cid») (now token)) ≤ length (now buf))) ⌝ }
+    ensures { λ r. ⌜ Put (formBytes (bytesBE 2 field) form number (now («dst_cid» .entry)) (now («src_cid» .entry)) (now (token .entry))) (now (buf .entry)) 0 r (now (buf .exit)) ⌝ }
 {
     let version = form.version;
     let names = coding::put_u8(buf, 0, form.first);
     let start = put_names(version, dst_cid, src_cid, buf, names);
     let length = put_token(form.has_token, token, buf, start);
-    let at = put_placeholder(form.has_length, buf, length);
+    let at = put_length(form.has_length, field, buf, length);
     put_number(number, buf, at)
 }
 
@@ -224,6 +242,41 @@ fn number_len(number: HeaderNumber) -> NumberLen
     }
 }
 
+// Writes a header over lent connection ids, with these two bytes for its Length, where a payload of n bytes may follow.
+// Every test is made before a byte is written.
+fn encode_with(
+    header: Header,
+    dst_cid: &[u8],
+    src_cid: &[u8],
+    token: &[u8],
+    field: u16,
+    n: usize,
+    buf: &mut [u8],
+) -> Encoded
+    ensures { λ r. ⌜ EncodesAs (plainOf header) (headerBefore (bytesBE 2 field) (plainOf header) (cidOf (now («dst_cid» .entry))) (cidOf (now («src_cid» .entry))) (now (token .entry)) n) (now (buf .entry)) (encodedOf r) (now (buf .exit)) ⌝ }
+{
+    let number = header.number();
+    if !keep_rules(number, dst_cid, src_cid) {
+        return Encoded::Refused(Refusal::Argument);
+    }
+    let form = header::form_of(header);
+    let Sized::Bytes(len) = size(form, number, dst_cid, src_cid, token) else {
+        return Encoded::Refused(Refusal::Argument);
+    };
+    if MAX_DATAGRAM - len < n {
+        return Encoded::Refused(Refusal::Argument);
+    }
+    if buf.len() < len {
+        return Encoded::Refused(Refusal::Room);
+    }
+    let header_len = put_header(form, number, field, dst_cid, src_cid, token, buf);
+    Encoded::Partial(PartialEncode {
+        header_len,
+        number: number_len(number),
+        has_length: form.has_length,
+    })
+}
+
 // Writes a header from byte 0 of buf on. The token is an Initial's.
 pub fn encode(
     header: Header,
@@ -234,27 +287,69 @@ pub fn encode(
 ) -> Encoded
     ensures { λ r. ⌜ Encodes (plainOf header) «dst_cid» «src_cid» (now (token .entry)) (now (buf .entry)) (encodedOf r) (now (buf .exit)) ⌝ }
 {
-    let number = header.number();
-    if !keep_rules(number, dst_cid, src_cid) {
+    let to = dst_cid.len as usize;
+    let from = src_cid.len as usize;
+    if MAX_CID_SIZE < to {
         return Encoded::Refused(Refusal::Argument);
     }
-    let form = header::form_of(header);
-    let Sized::Bytes(len) = size(form, number, dst_cid, src_cid, token) else {
+    if MAX_CID_SIZE < from {
         return Encoded::Refused(Refusal::Argument);
-    };
-    if buf.len() < len {
-        return Encoded::Refused(Refusal::Room);
     }
-    let header_len = put_header(form, number, dst_cid, src_cid, token, buf);
-    Encoded::Partial(PartialEncode {
-        header_len,
-        number: number_len(number),
-        has_length: form.has_length,
-    })
+    let dst = dst_cid.bytes;
+    let src = src_cid.bytes;
+    encode_with(header, &dst[..to], &src[..from], token, 0, 0, buf)
+}
+
+// Whether a Length of number and payload fits its two bytes, where there is one.
+fn length_fits(has_length: bool, k: usize, n: usize) -> bool
+    ensures { λ r. ⌜ r ≡ lengthFits «has_length» (k + n) ⌝ }
+{
+    if !has_length {
+        return true;
+    }
+    if 0x4000 <= n {
+        return false;
+    }
+    if 0x4000 - n <= k {
+        return false;
+    }
+    true
+}
+
+// The Length's two bytes as a number, 01 on top; a header that has none does not look at them.
+fn length_field(has_length: bool, k: usize, n: usize) -> u16
+    requires { ⌜ lengthFits «has_length» (k + n) ≡ true ⌝ }
+    ensures { λ r. ⌜ r ≡ fieldFor «has_length» (k + n) ⌝ }
+{
+    if !has_length {
+        return 0;
+    }
+    let len = 0x4000 + k + n;
+    len as u16
+}
+
+// Writes a header over lent connection ids, its Length that of number and payload, for a payload of n bytes to follow.
+pub fn encode_for(
+    header: Header,
+    dst_cid: &[u8],
+    src_cid: &[u8],
+    token: &[u8],
+    n: usize,
+    buf: &mut [u8],
+) -> Encoded
+    ensures { λ r. ⌜ EncodesFor (plainOf header) (cidOf (now («dst_cid» .entry))) (cidOf (now («src_cid» .entry))) (now (token .entry)) n (now (buf .entry)) (encodedOf r) (now (buf .exit)) ⌝ }
+{
+    let has_length = header::has_length(header);
+    let k = number_size(header.number());
+    if !length_fits(has_length, k, n) {
+        return Encoded::Refused(Refusal::Argument);
+    }
+    let field = length_field(has_length, k, n);
+    encode_with(header, dst_cid, src_cid, token, field, n, buf)
 }
 
 // The bytes of a header's number.
-fn bytes_of(number: NumberLen) -> usize
+pub fn bytes_of(number: NumberLen) -> usize
     ensures { λ r. ⌜ r ≡ numberBytes (numberLenOf number) ⌝ }
 {
     match number {

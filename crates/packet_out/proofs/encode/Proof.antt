@@ -1,97 +1,84 @@
+use Rattle.packet_out.proofs.Before.{out-wide, out-wide-src, out-lent}
+use Rattle.packet_out.proofs.Laws.{encodes-no}
+use Rattle.packet_out.specs.Said.{plainOf, encodedOf}
+use Rattle.shared.specs.Cid.{cidBytes}
+use Rattle.coding.proofs.Writes.{written-no}
+use mathlib.Core.Path.{_≡_}
 use native.Mathlib.Omega.{arith}
-use mathlib.Core.Path.{ap, _∙_}
-use Rattle.coding.proofs.Writes.{written-no, written-short, written-ok, put-so}
-use Rattle.protect.proofs.Cases.{told, denied}
-use Rattle.packet_out.specs.Encoding.{Shape, numberLenIn}
-use Rattle.packet_out.specs.Said.{encodedOf, partOf, shapeOf}
-use Rattle.packet_out.proofs.Laws.{kept, out-rules, out-long, out-ok, long-seen, fits-seen, size-seen, size-refused, encodes-no, encodes-ok}
+use lib.ListN.{length, length-take}
+use denote.Ref.{now}
 use borrow.Author.Needs.{needs}
 use Rattle.packet_out.proofs.encode.Statement.{statement}
 use Rattle.packet_out.proofs.encode.Tie as tie
 
-number-requires : tie.Need-number-requires
-number-requires c κs = search needs
+cast-to : tie.Need-cast-to
+cast-to c = search needs
 
-keep-rules-requires : tie.Need-keep-rules-requires
-keep-rules-requires c κs = search needs
+cast-from : tie.Need-cast-from
+cast-from c = search needs
 
 returns : tie.Need-returns
 unfolding encodedOf
-returns c =
-    let b = c .before .before in
-    encodes-no _ _ _ _ (written-no _ (out-rules _ _ _ _ _ (b .number .ensures) (denied (c .before .keep-rules .ensures) (c .if1 .taken))))
-
-form-of-requires : tie.Need-form-of-requires
-form-of-requires c κs =
-    let b = c .before .before in
-    rw (b .number .ensures) at (kept _ _ _ (told (c .before .keep-rules .ensures) (c .if1 .left)) .cut)
-
-size-requires : tie.Need-size-requires
-size-requires c κs = told (c .before .before .keep-rules .ensures) (c .before .if1 .left)
-
-enum-known-len : tie.Need-enum-known-len
-enum-known-len c = search needs
-
-enum-told : tie.Need-enum-told
-enum-told c = search needs
+returns c = encodes-no _ (written-no _ (out-wide _ _ _ _ (c .if1 .taken)))
 
 returns-2 : tie.Need-returns-2
 unfolding encodedOf
-returns-2 c =
-    let b = c .before .before .before in
-    let k = told (b .before .before .keep-rules .ensures) (b .before .if1 .left) in
-    let h = long-seen _ _ _ (size-refused _ _ _ (c .before .before .size .ensures) (c .enum-told .given .1)) in
-    encodes-no _ _ _ _ (written-no _ (out-long _ _ _ _ _ (b .before .before .before .number .ensures) k _ (b .form-of .ensures) h))
+returns-2 c = encodes-no _ (written-no _ (out-wide-src _ _ _ _ (c .before .if1 .left) (c .if2 .taken)))
 
-returns-3 : tie.Need-returns-3
-unfolding encodedOf
-returns-3 c =
-    let d = c .before .before .before .before in
-    let b = d .before in
-    let k = told (b .before .before .keep-rules .ensures) (b .before .if1 .left) in
-    let h = fits-seen _ _ _ (size-seen _ _ _ (d .size .ensures) (c .before .before .len .given .1)) in
-    encodes-no _ _ _ _ (written-short _ (out-ok _ _ _ _ _ (b .before .before .before .number .ensures) k _ (b .form-of .ensures) (h .0)) (omega (arith, h .1)))
+array-share-prefix-dst : tie.Need-array-share-prefix-dst
+array-share-prefix-dst c =
+    let a = c .before .before .before .before .before .before .before .before .args in
+    let m : length (a .dst-cid .bytes) ≡ 20 = search needs in
+    let n : length (a .src-cid .bytes) ≡ 20 = search needs in
+    omega arith
 
-put-header-requires : tie.Need-put-header-requires
-put-header-requires c κs =
-    let d = c .before .before .before .before .before in
-    let b = d .before in
-    let k = told (b .before .before .keep-rules .ensures) (b .before .if1 .left) in
-    let h = fits-seen _ _ _ (size-seen _ _ _ (d .size .ensures) (c .before .before .before .len .given .1)) in
-    (k, (h .0, omega (arith, h .1)))
+slice-aggregate-encode-with : tie.Need-slice-aggregate-encode-with
+slice-aggregate-encode-with c =
+    let a = c .before .before .before .before .before .before .before .before .before .args in
+    let m : length (a .dst-cid .bytes) ≡ 20 = search needs in
+    let n : length (a .src-cid .bytes) ≡ 20 = search needs in
+    simp length-take (omega arith)
 
-number-len-requires : tie.Need-number-len-requires
-number-len-requires c κs = search needs
+array-share-prefix-src : tie.Need-array-share-prefix-src
+array-share-prefix-src c =
+    let a = c .before .before .before .before .before .before .before .before .before .args in
+    let m : length (a .dst-cid .bytes) ≡ 20 = search needs in
+    let n : length (a .src-cid .bytes) ≡ 20 = search needs in
+    omega arith
+
+slice-aggregate-encode-with-2 : tie.Need-slice-aggregate-encode-with-2
+slice-aggregate-encode-with-2 c =
+    let a = c .before .before .before .before .before .before .before .before .before .before .args in
+    let m : length (a .dst-cid .bytes) ≡ 20 = search needs in
+    let n : length (a .src-cid .bytes) ≡ 20 = search needs in
+    simp length-take (omega arith)
+
+encode-with-requires : tie.Need-encode-with-requires
+encode-with-requires c κs = search needs
 
 same-length : tie.Need-same-length
 same-length c = search needs
 
-returns-4 : tie.Need-returns-4
-unfolding encodedOf partOf shapeOf
-returns-4 c =
-    let e = c .before .before .before in
-    let d = e .before .before .before .before .before .before in
-    let b = d .before in
-    let k = told (b .before .before .keep-rules .ensures) (b .before .if1 .left) in
-    let h = fits-seen _ _ _ (size-seen _ _ _ (d .size .ensures) (e .before .before .before .before .len .given .1)) in
-    let n = b .before .before .before .number .ensures in
-    encodes-ok _ _ _ _ (c .number-len .ensures ∙ ap numberLenIn n) (ap (λ (x : Shape). x .hasLength) (b .form-of .ensures))
-    (written-ok _ (out-ok _ _ _ _ _ n k _ (b .form-of .ensures) (h .0)) (omega (arith, h .1)) (put-so _ _ _ (omega (arith, h .1)) (e .put-header .ensures)))
+returns-3 : tie.Need-returns-3
+unfolding cidBytes
+returns-3 c =
+    let a = c .before .before .before .before .before .before .before .before .before .before .before .before .before .before .args in
+    let m : length (a .dst-cid .bytes) ≡ 20 = search needs in
+    let n : length (a .src-cid .bytes) ≡ 20 = search needs in
+    rw (← out-lent (plainOf (a .header)) (a .dst-cid) (a .src-cid) (now (a .token)) (omega arith) (omega arith)) (c .before .before .encode-with .ensures)
 
 pub encode-spec : {M : Type 1} → statement M
 encode-spec =
     tie.close
     (tie.spec
-    number-requires
-    keep-rules-requires
+    cast-to
+    cast-from
     returns
-    form-of-requires
-    size-requires
-    enum-known-len
-    enum-told
     returns-2
-    returns-3
-    put-header-requires
-    number-len-requires
+    array-share-prefix-dst
+    slice-aggregate-encode-with
+    array-share-prefix-src
+    slice-aggregate-encode-with-2
+    encode-with-requires
     same-length
-    returns-4)
+    returns-3)

@@ -1,17 +1,10 @@
 use native.Mathlib.Omega.{arith}
-use mathlib.Core.Path.{_≡_, sym}
-use lib.ListN.{length}
+use mathlib.Core.Path.{sym}
 use Rattle.packet_out.specs.Said.{versionOf}
-use Rattle.packet_out.proofs.Laws.{length-names, length-short}
+use Rattle.packet_out.proofs.Laws.{lent-names, lent-short}
 use borrow.Author.Needs.{needs}
 use Rattle.packet_out.proofs.names_size.Statement.{statement}
 use Rattle.packet_out.proofs.names_size.Tie as tie
-
-cast-to : tie.Need-cast-to
-cast-to c = search needs
-
-cast-from : tie.Need-cast-from
-cast-from c = search needs
 
 enum-told : tie.Need-enum-told
 enum-told c = search needs
@@ -33,26 +26,16 @@ enum-told-2 c = search needs
 
 returns : tie.Need-returns
 unfolding versionOf
-returns c =
-    let a = c .before .before .before .before .args in
-    let m : length (a .dst-cid .bytes) ≡ 20 = search needs in
-    let n : length (a .src-cid .bytes) ≡ 20 = search needs in
-    let l = length-names (a .dst-cid) (a .src-cid) (omega arith) _ (omega arith) in
-    (rw (c .enum-told .given .1) (sym l), omega arith)
+returns c = (rw (c .enum-told .given .1) (sym (lent-names _ _ _)), omega arith)
 
 returns-2 : tie.Need-returns-2
 unfolding versionOf
-returns-2 c =
-    let a = c .before .before .before .before .args in
-    let m : length (a .dst-cid .bytes) ≡ 20 = search needs in
-    (rw (c .enum-told2 .given .1) (sym (length-short (a .dst-cid) (a .src-cid) (omega arith))), omega arith)
+returns-2 c = (rw (c .enum-told2 .given .1) (sym (lent-short _ _)), omega arith)
 
 pub names-size-spec : {M : Type 1} → statement M
 names-size-spec =
     tie.close
     (tie.spec
-    cast-to
-    cast-from
     enum-told
     add-result
     add-result-2

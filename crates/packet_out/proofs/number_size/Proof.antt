@@ -1,8 +1,5 @@
-use native.Mathlib.Omega.{arith}
-use mathlib.Core.Path.{sym}
-use Rattle.packet_out.specs.Encoding.{numberKeeps, numberField}
+use Rattle.packet_out.specs.Encoding.{numberLenIn}
 use Rattle.packet_out.specs.Said.{cutOf}
-use Rattle.packet_out.proofs.Laws.{length-number, cut-short}
 use borrow.Author.Needs.{needs}
 use Rattle.packet_out.proofs.number_size.Statement.{statement}
 use Rattle.packet_out.proofs.number_size.Tie as tie
@@ -14,12 +11,12 @@ enum-told : tie.Need-enum-told
 enum-told c = search needs
 
 returns : tie.Need-returns
-unfolding cutOf numberKeeps
-returns c = let q = c .before .number .given .1 in (rw q (sym (length-number _)), cut-short _ (rw q at (c .before .before .before .pre)) .1)
+unfolding cutOf numberLenIn
+returns c = rw (c .before .number .given .1)
 
 returns-2 : tie.Need-returns-2
-unfolding cutOf numberField
-returns-2 c = (rw (c .enum-told .given .1), omega arith)
+unfolding cutOf numberLenIn
+returns-2 c = rw (c .enum-told .given .1)
 
 pub number-size-spec : {M : Type 1} → statement M
 number-size-spec = tie.close (tie.spec enum-known-number enum-told returns returns-2)

@@ -1,8 +1,9 @@
-use Rattle.packet_out.proofs.Runs.{names-room, token-room, header-put}
+use Rattle.packet_out.proofs.Runs.{names-room, token-room, number-room, header-put}
 use Prim.Native.Nat.{_<_}
 use native.Mathlib.Omega.{arith}
 use denote.Ref.{now}
-use Rattle.packet_out.specs.Encoding.{placeholder}
+use Rattle.coding.specs.Bytes.{bytesBE}
+use Rattle.shared.specs.Cid.{cidOf}
 use Rattle.packet_out.specs.Said.{shapeOf, cutOf}
 use Rattle.packet_out.proofs.Laws.{kept, length-shape}
 use borrow.Author.Needs.{needs}
@@ -13,34 +14,41 @@ put-u8-requires : tie.Need-put-u8-requires
 put-u8-requires c κs = search needs
 
 put-names-requires : tie.Need-put-names-requires
-unfolding shapeOf
+unfolding shapeOf cidOf
 put-names-requires c κs =
     let b = c .before .before .before in
-    let t = b .before .before .before .before in
+    let t = c .before .before .before .before .before .before .before .before .before in
     let a = t .args in
     let k = kept _ _ _ (t .pre .0) in
     let x : a .form .first < 256 = search needs in
-    ((k .to, k .from), names-room placeholder (shapeOf (a .form)) (cutOf (a .number)) (a .dst-cid) (a .src-cid) (now (a .token)) x (t .pre .1 .1) (b .put-u8 .ensures))
+    ((k .to, k .from), names-room (bytesBE 2 (a .field)) (shapeOf (a .form)) (cutOf (a .number)) (cidOf (now (a .dst-cid))) (cidOf (now (a .src-cid))) (now (a .token)) x (t .pre .1 .1) (b .put-u8 .ensures))
 
 put-token-requires : tie.Need-put-token-requires
 unfolding shapeOf
 put-token-requires c κs =
     let d = c .before .before .before in
-    let b = d .before .before .before .before in
-    let t = b .before .before .before .before in
+    let b = c .before .before .before .before .before .before .before in
+    let t = c .before .before .before .before .before .before .before .before .before .before .before .before .before in
     let a = t .args in
     let x : a .form .first < 256 = search needs in
-    let l = length-shape placeholder (shapeOf (a .form)) (cutOf (a .number)) (a .dst-cid) (a .src-cid) (now (a .token)) in
-    let r = token-room placeholder (shapeOf (a .form)) (cutOf (a .number)) (a .dst-cid) (a .src-cid) (now (a .token)) x (t .pre .1 .1) (b .put-u8 .ensures) (d .put-names .ensures) in
+    let l = length-shape (bytesBE 2 (a .field)) (shapeOf (a .form)) (cutOf (a .number)) (cidOf (now (a .dst-cid))) (cidOf (now (a .src-cid))) (now (a .token)) in
+    let r = token-room (bytesBE 2 (a .field)) (shapeOf (a .form)) (cutOf (a .number)) (cidOf (now (a .dst-cid))) (cidOf (now (a .src-cid))) (now (a .token)) x (t .pre .1 .1) (b .put-u8 .ensures) (d .put-names .ensures) in
     (omega (arith, t .pre .1 .0, l), r)
 
-put-placeholder-requires : tie.Need-put-placeholder-requires
-put-placeholder-requires c κs = search needs
+put-length-requires : tie.Need-put-length-requires
+put-length-requires c κs = search needs
 
 put-number-requires : tie.Need-put-number-requires
+unfolding shapeOf
 put-number-requires c κs =
+    let f = c .before .before .before in
+    let e = c .before .before .before .before .before .before .before in
+    let d = c .before .before .before .before .before .before .before .before .before .before .before in
     let b = c .before .before .before .before .before .before .before .before .before .before .before .before .before .before .before in
-    kept _ _ _ (b .before .before .before .before .pre .0) .cut
+    let t = c .before .before .before .before .before .before .before .before .before .before .before .before .before .before .before .before .before .before .before .before .before in
+    let a = t .args in
+    let x : a .form .first < 256 = search needs in
+    (kept _ _ _ (t .pre .0) .cut, number-room (bytesBE 2 (a .field)) (shapeOf (a .form)) (cutOf (a .number)) (cidOf (now (a .dst-cid))) (cidOf (now (a .src-cid))) (now (a .token)) x (t .pre .1 .1) (b .put-u8 .ensures) (d .put-names .ensures) (e .put-token .ensures) (f .put-length .ensures))
 
 same-length : tie.Need-same-length
 same-length c = search needs
@@ -49,14 +57,14 @@ returns : tie.Need-returns
 unfolding shapeOf
 returns c =
     let f = c .before .before .before .before .before .before in
-    let e = f .before .before .before .before in
-    let d = e .before .before .before .before in
-    let b = d .before .before .before .before in
-    let t = b .before .before .before .before in
+    let e = c .before .before .before .before .before .before .before .before .before .before in
+    let d = c .before .before .before .before .before .before .before .before .before .before .before .before .before .before in
+    let b = c .before .before .before .before .before .before .before .before .before .before .before .before .before .before .before .before .before .before in
+    let t = c .before .before .before .before .before .before .before .before .before .before .before .before .before .before .before .before .before .before .before .before .before .before .before .before in
     let a = t .args in
     let x : a .form .first < 256 = search needs in
-    header-put placeholder (shapeOf (a .form)) (cutOf (a .number)) (a .dst-cid) (a .src-cid) (now (a .token)) x (t .pre .1 .1) (b .put-u8 .ensures) (d .put-names .ensures)
-    (e .put-token .ensures) (f .put-placeholder .ensures) (c .before .before .put-number .ensures)
+    header-put (bytesBE 2 (a .field)) (shapeOf (a .form)) (cutOf (a .number)) (cidOf (now (a .dst-cid))) (cidOf (now (a .src-cid))) (now (a .token)) x (t .pre .1 .1) (b .put-u8 .ensures) (d .put-names .ensures) (e .put-token .ensures) (f .put-length .ensures)
+    (c .before .before .put-number .ensures)
 
 pub put-header-spec : {M : Type 1} → statement M
 put-header-spec =
@@ -65,7 +73,7 @@ put-header-spec =
     put-u8-requires
     put-names-requires
     put-token-requires
-    put-placeholder-requires
+    put-length-requires
     put-number-requires
     same-length
     returns)

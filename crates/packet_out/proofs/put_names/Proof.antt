@@ -1,7 +1,11 @@
-use Rattle.packet_out.proofs.Runs.{names-run}
-use Rattle.shared.proofs.Laws.{cid-some}
+use Rattle.packet_out.proofs.Runs.{dst-room, src-room, names-run}
+use Rattle.packet_out.proofs.Laws.{lent-short}
+use Rattle.shared.specs.Cid.{cidOf}
+use Rattle.shared.proofs.Back.{cid-same}
 use Rattle.packet_out.specs.Encoding.{namesBytes}
 use Rattle.packet_out.specs.Said.{versionOf}
+use native.Mathlib.Omega.{arith}
+use denote.Ref.{now}
 use borrow.Author.Needs.{needs}
 use Rattle.packet_out.proofs.put_names.Statement.{statement}
 use Rattle.packet_out.proofs.put_names.Tie as tie
@@ -13,7 +17,11 @@ enum-told : tie.Need-enum-told
 enum-told c = search needs
 
 put-bytes-requires : tie.Need-put-bytes-requires
-put-bytes-requires c κs = search needs
+unfolding versionOf
+put-bytes-requires c κs =
+    let t = c .before .before .before .before .before .before in
+    let r = rw (c .before .enum-told .given .1) at (t .pre .1) in
+    omega (arith, r, lent-short (now (t .args .dst-cid)) (now (t .args .src-cid)))
 
 same-length : tie.Need-same-length
 same-length c = search needs
@@ -21,17 +29,28 @@ same-length c = search needs
 returns : tie.Need-returns
 unfolding versionOf namesBytes
 returns c =
-    let t = c .before .before .before .before .before .before .before in
-    rw (c .before .before .before .before .enum-told .given .1, ← cid-some (t .args .dst-cid) (t .pre .0 .0)) (c .before .before .put-bytes .ensures)
+    let t = c .before .before .before .before .before .before .before .before .before in
+    rw (c .before .before .before .before .enum-told .given .1, cid-same (now (t .args .dst-cid))) (c .before .before .put-bytes .ensures)
 
 put-u32-requires : tie.Need-put-u32-requires
 put-u32-requires c κs = search needs
 
 put-long-requires : tie.Need-put-long-requires
-put-long-requires c κs = search needs
+unfolding versionOf
+put-long-requires c κs =
+    let b = c .before .before .before in
+    let t = c .before .before .before .before .before .before .before .before .before .before .before in
+    let q = c .before .before .before .before .before .before .version .given .1 in
+    (t .pre .0 .0, dst-room _ (cidOf (now (t .args .dst-cid))) (cidOf (now (t .args .src-cid))) (rw q at (t .pre .1)) (b .put-u32 .ensures))
 
 put-long-requires-2 : tie.Need-put-long-requires-2
-put-long-requires-2 c κs = search needs
+unfolding versionOf
+put-long-requires-2 c κs =
+    let d = c .before .before .before in
+    let b = c .before .before .before .before .before .before .before in
+    let t = c .before .before .before .before .before .before .before .before .before .before .before .before .before .before .before in
+    let q = c .before .before .before .before .before .before .before .before .before .before .version .given .1 in
+    (t .pre .0 .1, src-room _ (cidOf (now (t .args .dst-cid))) (cidOf (now (t .args .src-cid))) (rw q at (t .pre .1)) (b .put-u32 .ensures) (d .put-long .ensures))
 
 same-length-2 : tie.Need-same-length-2
 same-length-2 c = search needs
@@ -40,10 +59,10 @@ returns-2 : tie.Need-returns-2
 unfolding versionOf
 returns-2 c =
     let d = c .before .before .before .before .before .before in
-    let b = d .before .before .before .before in
-    let t = b .before .before .before .before .before .before in
-    let q = b .before .before .before .version .given .1 in
-    rw q (names-run _ (t .args .dst-cid) (t .args .src-cid) (t .pre .0 .0) (t .pre .0 .1) (rw q at (t .pre .1)) (b .put-u32 .ensures) (d .put-long .ensures) (c .before .before .put-long2 .ensures))
+    let b = c .before .before .before .before .before .before .before .before .before .before in
+    let t = c .before .before .before .before .before .before .before .before .before .before .before .before .before .before .before .before .before .before in
+    let q = c .before .before .before .before .before .before .before .before .before .before .before .before .before .version .given .1 in
+    rw q (names-run _ (cidOf (now (t .args .dst-cid))) (cidOf (now (t .args .src-cid))) (rw q at (t .pre .1)) (b .put-u32 .ensures) (d .put-long .ensures) (c .before .before .put-long2 .ensures))
 
 pub put-names-spec : {M : Type 1} → statement M
 put-names-spec =

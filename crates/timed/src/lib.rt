@@ -1,0 +1,223 @@
+// C functions for bench/ alone: what the gateway's surface does not export. Integers read one after the other, packet numbers cut
+// and read back, encoders of each shape and the dump's text, each over a proved crate. An answer's refusal comes first: 0 for none,
+// else document 01's number.
+use coding::Refusal;
+use coding::VarRead;
+use coding::Wrote;
+use frame::AckEcn;
+use frame::ResetStream;
+use frame::TypeRead;
+use frame_out::StreamMeta;
+use number::CutMade;
+use number::FullRead;
+use shared::ConnectionId;
+use shared::CutNumber;
+use shared::FrameType;
+use shared::FullNumber;
+use shared::StreamId;
+ghost use mathlib.Core.Path.{_≡_};
+ghost use mathlib.Core.Option.{none};
+ghost use lib.ListN.{length};
+ghost use lib.Dec.{eqb};
+ghost use Rattle.coding.specs.Said.{wroteOf};
+ghost use Rattle.shared.specs.Cid.{cidNew};
+ghost use Rattle.number.specs.Cutting.{cut, cutMade};
+ghost use Rattle.number.specs.Expanding.{expanded};
+ghost use Rattle.frame_write.specs.Writing.{number};
+ghost use Rattle.frame_out.specs.Frames.{metaOut, cryptoOut, resetStreamOut, newCidOut};
+ghost use Rattle.frame_out.specs.Closes.{connection, closeOut};
+ghost use Rattle.ack_out.specs.Acks.{ackOut};
+ghost use Rattle.dump_text.specs.Dump.{dumpOut};
+ghost use Rattle.timed.specs.Timed.{varsOf, cutSaid, fullSaid, written, flagged, Writes};
+
+// The integers of a slice: how many, and the exclusive or of all.
+#[repr(C)]
+pub struct VarsAnswer {
+    pub refusal: u8,
+    pub count: usize,
+    pub mixed: u64,
+}
+
+// A packet number: its bytes where it is cut, else 0, and the number; 0 beside a refusal.
+#[repr(C)]
+pub struct NumberSaid {
+    pub refusal: u8,
+    pub len: usize,
+    pub number: u64,
+}
+
+// The length of what was written, 0 beside a refusal.
+#[repr(C)]
+pub struct WriteAnswer {
+    pub refusal: u8,
+    pub len: usize,
+}
+
+// Reads integers from byte 0 on until the slice ends; where one is cut, 10 and what came before it.
+#[no_mangle]
+pub extern "C" fn guobbarel_timed_read_vars(bytes: &[u8]) -> VarsAnswer
+    ensures { λ r. ⌜ r ≡ varsOf (now (bytes .entry)) ⌝ }
+{
+    let mut at = 0;
+    let mut count = 0;
+    let mut mixed = 0;
+    while at < bytes.len() {
+        let VarRead::Var(v, next) = coding::get_var(bytes, at) else {
+            return VarsAnswer {
+                refusal: 10,
+                count,
+                mixed,
+            };
+        };
+        mixed = mixed ^ v.0;
+        count += 1;
+        at = next;
+    }
+    VarsAnswer {
+        refusal: 0,
+        count,
+        mixed,
+    }
+}
+
+fn said(refusal: u8, len: usize, number: u64) -> NumberSaid
+    ensures { λ r. ⌜ r ≡ record { refusal = refusal; len = len; number = number } ⌝ }
+{
+    NumberSaid {
+        refusal,
+        len,
+        number,
+    }
+}
+
+// A number to be sent, cut by the largest acknowledged.
+#[no_mangle]
+pub extern "C" fn guobbarel_timed_cut(number: u64, acked: u64) -> NumberSaid
+    ensures { λ r. ⌜ r ≡ cutSaid (cutMade number acked) ⌝ }
+{
+    match number::new(FullNumber(number), FullNumber(acked)) {
+        CutMade::Cut(c) => said(0, c.0, c.1 as u64),
+        CutMade::Refused(why) => said(why.number(), 0, 0),
+    }
+}
+
+// The full number of a cut one, by the expected one.
+#[no_mangle]
+pub extern "C" fn guobbarel_timed_expand(len: usize, value: u32, expected: u64) -> NumberSaid
+    ensures { λ r. ⌜ r ≡ fullSaid (expanded (cut len value) expected) ⌝ }
+{
+    match number::expand(CutNumber(len, value), expected) {
+        FullRead::Number(n) => said(0, 0, n.0),
+        FullRead::Refused(why) => said(why.number(), 0, 0),
+    }
+}
+
+// A writer's answer as a record.
+fn written(w: Wrote) -> WriteAnswer
+    ensures { λ r. ⌜ r ≡ written (wroteOf w) ⌝ }
+{
+    match w {
+        Wrote::Len(len) => WriteAnswer { refusal: 0, len },
+        Wrote::Refused(why) => WriteAnswer {
+            refusal: why.number(),
+            len: 0,
+        },
+    }
+}
+
+#[no_mangle]
+pub extern "C" fn guobbarel_timed_reset_stream(
+    id: u64,
+    error_code: u64,
+    final_offset: u64,
+    out: &mut [u8],
+) -> WriteAnswer
+    ensures { λ r. ⌜ Writes (resetStreamOut id «error_code» «final_offset») (now (out .entry)) r (now (out .exit)) ⌝ }
+{
+    let frame = ResetStream {
+        id: StreamId(id),
+        error_code,
+        final_offset,
+    };
+    written(frame_out::reset_stream(frame, out))
+}
+
+// A flag above 1 is 14.
+#[no_mangle]
+pub extern "C" fn guobbarel_timed_stream_meta(
+    id: u64,
+    start: u64,
+    end: u64,
+    fin: u8,
+    has_length: u8,
+    out: &mut [u8],
+) -> WriteAnswer
+    ensures { λ r. ⌜ Writes (flagged fin (flagged «has_length» (metaOut id start end (eqb fin 1) (eqb «has_length» 1)))) (now (out .entry)) r (now (out .exit)) ⌝ }
+{
+    if 1 < fin {
+        return written(Wrote::Refused(Refusal::Argument));
+    }
+    if 1 < has_length {
+        return written(Wrote::Refused(Refusal::Argument));
+    }
+    let meta = StreamMeta {
+        id: StreamId(id),
+        start,
+        end,
+        fin: fin == 1,
+    };
+    written(frame_out::stream_meta(meta, has_length == 1, out))
+}
+
+#[no_mangle]
+pub extern "C" fn guobbarel_timed_crypto(offset: u64, data: &[u8], out: &mut [u8]) -> WriteAnswer
+    ensures { λ r. ⌜ Writes (cryptoOut offset (now («data» .entry))) (now (out .entry)) r (now (out .exit)) ⌝ }
+{
+    written(frame_out::crypto(offset, data, out))
+}
+
+// A connection id longer than 20 bytes counts as an empty one, and both are 14.
+#[no_mangle]
+pub extern "C" fn guobbarel_timed_new_connection_id(
+    sequence: u64,
+    retire_prior_to: u64,
+    id: &[u8],
+    reset_token: &[u8; 16],
+    out: &mut [u8],
+) -> WriteAnswer
+    ensures { λ r. ⌜ Writes (newCidOut sequence «retire_prior_to» (cidNew (now (id .entry)) .1) (now («reset_token» .entry))) (now (out .entry)) r (now (out .exit)) ⌝ }
+{
+    let read = ConnectionId::new(id);
+    let cid = read.cid;
+    written(frame_out::new_connection_id(sequence, retire_prior_to, cid, reset_token, out))
+}
+
+// A frame type of 0 says that there is none.
+#[no_mangle]
+pub extern "C" fn guobbarel_timed_connection_close(
+    error_code: u64,
+    frame_type: u64,
+    reason: &[u8],
+    max_len: usize,
+    out: &mut [u8],
+) -> WriteAnswer
+    ensures { λ r. ⌜ Writes (closeOut (connection «error_code» (number «frame_type»)) (now (reason .entry)) «max_len») (now (out .entry)) r (now (out .exit)) ⌝ }
+{
+    let ty = TypeRead::Type(FrameType(frame_type));
+    written(frame_out::connection_close(error_code, ty, reason, max_len, out))
+}
+
+// Without ECN counts.
+#[no_mangle]
+pub extern "C" fn guobbarel_timed_ack(delay: u64, ranges: &[u64], out: &mut [u8]) -> WriteAnswer
+    ensures { λ r. ⌜ Writes (ackOut delay (now (ranges .entry)) none) (now (out .entry)) r (now (out .exit)) ⌝ }
+{
+    written(ack_out::ack(delay, ranges, AckEcn::Nothing, out))
+}
+
+#[no_mangle]
+pub extern "C" fn guobbarel_timed_dump(datagram: &[u8], out: &mut [u8]) -> WriteAnswer
+    ensures { λ r. ⌜ Writes (dumpOut (now (datagram .entry)) (length (now (out .entry)))) (now (out .entry)) r (now (out .exit)) ⌝ }
+{
+    written(dump_text::dump(datagram, out))
+}
