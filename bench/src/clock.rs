@@ -40,13 +40,12 @@ pub fn prepared<S>(make: impl Fn() -> S + 'static, mut call: impl FnMut(&mut S) 
     })
 }
 
-/// The two sides of a row, with the times of a call so far, in nanoseconds.
-pub struct Pair {
-    ours: Side,
-    rust: Side,
+/// The sides of a row, ours and the Rust's or ours alone, with the times of a call so far, in nanoseconds.
+pub struct Sides {
+    sides: Vec<Side>,
     calls: usize,
     clock: Duration,
-    times: [Vec<f64>; 2],
+    times: Vec<Vec<f64>>,
 }
 
 /// The least and the median time of a call, in nanoseconds.
@@ -56,49 +55,56 @@ pub struct Times {
     pub median: f64,
 }
 
-impl Pair {
-    /// Two sides whose calls need nothing made anew. An error where they do not agree, or refuse.
-    pub fn plain(ours: Side, rust: Side) -> Result<Self, String> {
-        let mut pair = Self::new(ours, rust, 1)?;
-        while (pair.ours)(pair.calls).0.min((pair.rust)(pair.calls).0) < LONG_ENOUGH {
-            pair.calls *= 2;
+impl Sides {
+    /// Sides whose calls need nothing made anew. An error where they do not agree, or refuse.
+    pub fn plain(sides: impl IntoIterator<Item = Side>) -> Result<Self, String> {
+        let mut all = Self::new(sides.into_iter().collect(), 1)?;
+        while all.sides.iter_mut().any(|side| side(all.calls).0 < LONG_ENOUGH) {
+            all.calls *= 2;
         }
-        Ok(pair)
+        Ok(all)
     }
 
-    /// Two prepared sides, of calls that are lent so many bytes each.
-    pub fn prepared(ours: Side, rust: Side, bytes: usize) -> Result<Self, String> {
-        Self::new(ours, rust, (MOST_BYTES / bytes.max(1)).clamp(1, MOST_CALLS))
+    /// Prepared sides, of calls that are lent so many bytes each.
+    pub fn prepared(sides: impl IntoIterator<Item = Side>, bytes: usize) -> Result<Self, String> {
+        Self::new(sides.into_iter().collect(), (MOST_BYTES / bytes.max(1)).clamp(1, MOST_CALLS))
     }
 
-    /// Asks both sides once.
-    fn new(mut ours: Side, mut rust: Side, calls: usize) -> Result<Self, String> {
-        let (said, wanted) = (ours(1).1, rust(1).1);
-        if said.is_none() || said != wanted {
-            return Err(format!("ours {said:?}, the Rust {wanted:?}"));
+    /// Asks each side once.
+    fn new(mut sides: Vec<Side>, calls: usize) -> Result<Self, String> {
+        let said: Vec<Tally> = sides.iter_mut().map(|side| side(1).1).collect();
+        if said.iter().any(|tally| tally.is_none() || *tally != said[0]) {
+            return Err(format!("ours and the Rust: {said:?}"));
         }
-        Ok(Self { ours, rust, calls, clock: clock_cost(), times: [Vec::new(), Vec::new()] })
+        let times = sides.iter().map(|_| Vec::new()).collect();
+        Ok(Self { sides, calls, clock: clock_cost(), times })
     }
 
     /// Takes so many samples of each side, in turn.
     pub fn sample(&mut self, samples: usize) {
         for i in 0..samples {
-            let (first, second) = if i % 2 == 0 { (0, 1) } else { (1, 0) };
-            for side in [first, second] {
-                let run = if side == 0 { &mut self.ours } else { &mut self.rust };
-                let took = run(self.calls).0.saturating_sub(self.clock);
+            let count = self.sides.len();
+            for side in (0..count).map(|k| (i + k) % count) {
+                let took = self.sides[side](self.calls).0.saturating_sub(self.clock);
                 self.times[side].push(took.as_nanos() as f64 / self.calls as f64);
             }
         }
     }
 
-    /// Ours and the Rust's.
-    pub fn times(&self) -> [Times; 2] {
-        self.times.each_ref().map(|times| {
+    /// Those of each side.
+    pub fn times(&self) -> Vec<Times> {
+        let of = |times: &Vec<f64>| {
             let mut sorted = times.clone();
             sorted.sort_by(f64::total_cmp);
             Times { least: sorted[0], median: sorted[sorted.len() / 2] }
-        })
+        };
+        self.times.iter().map(of).collect()
+    }
+
+    /// Ours by the Rust's, of the least times and of the medians; None where the Rust has no side.
+    pub fn ratios(&self) -> Option<[f64; 2]> {
+        let [ours, rust] = self.times().try_into().ok()?;
+        Some([ours.least / rust.least, ours.median / rust.median])
     }
 }
 

@@ -45,15 +45,27 @@ fn number_of(rng: &mut Rng, width: usize) -> u64 {
     least + rng.below(32)
 }
 
-/// So many MAX_DATA frames.
-pub fn max_data(count: usize, width: usize) -> Vec<u8> {
-    let (mut out, mut rng) = (Vec::new(), Rng::new(1, width as u64));
+/// So many integers, each behind these bytes: a frame's type, or none.
+pub fn integers(count: usize, widths: Widths, before: &[u8]) -> Vec<u8> {
+    let (mut out, mut rng) = (Vec::new(), Rng::new(1, 0));
     for _ in 0..count {
-        out.push(0x10);
+        out.extend(before);
+        let width = widths.pick(&mut rng);
         let number = number_of(&mut rng, width);
         put(&mut out, width, number);
     }
     out
+}
+
+/// So many ranges, ascending, whose gaps and blocks need these widths: each range's start, and its end past it.
+pub fn ranges(count: usize, widths: Widths) -> Vec<u64> {
+    let (mut rng, mut last) = (Rng::new(4, 0), 0);
+    let steps = (0..2 * count).map(|_| {
+        let width = widths.pick(&mut rng);
+        last += number_of(&mut rng, width) + 1;
+        last
+    });
+    steps.collect()
 }
 
 /// An ACK frame with so many blocks behind the first, or as many as a payload holds: the frame, and their number.

@@ -1,5 +1,6 @@
 //! Ours beside the Rust, timed in one process. Writes docs/BENCH.md and docs/bench.svg.
 mod clock;
+mod ffi;
 mod inputs;
 mod plot;
 mod report;
@@ -12,8 +13,8 @@ use std::process::ExitCode;
 
 const USAGE: &str = "\
 usage: bench [--quick] [--to DIR]
-Times libgateway.a, over the crate host, and the Rust, in turn; writes BENCH.md and bench.svg into DIR (default: docs/ of the
-repository). --quick takes few samples: it shows that all runs, and its numbers mean nothing.
+Times libgateway.a, over the crate host, libtimed.a and the Rust, in turn; writes BENCH.md and bench.svg into DIR (default:
+docs/ of the repository). --quick takes few samples: it shows that all runs, and its numbers mean nothing.
 Exit status: 0 written; 1 the two sides do not agree on an input, or nothing can be written; 2 bad usage.";
 
 /// How often all rows are gone through, and how many samples of a row are taken each time.
@@ -55,7 +56,7 @@ fn run(effort: Effort, folder: &Path) -> Result<(), String> {
     for round in 1..=effort.rounds {
         eprintln!("bench: round {round} of {}", effort.rounds);
         let points = growth.iter_mut().flatten();
-        table.iter_mut().chain(points).for_each(|row: &mut Row| row.pair.sample(effort.samples));
+        table.iter_mut().chain(points).for_each(|row: &mut Row| row.sides.sample(effort.samples));
     }
     let text = report::text(&table, &growth, effort, [&before, &load()]);
     let write = |name: &str, text: String| fs::write(folder.join(name), text).map_err(|e| format!("{name}: {e}"));

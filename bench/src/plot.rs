@@ -1,4 +1,4 @@
-//! docs/bench.svg: for each of three operations, time against size, both scales from 0, ours and the Rust's.
+//! docs/bench.svg: for each of four operations, time against size, both scales from 0, ours and the Rust's.
 use crate::rows::Row;
 use std::fmt::Write;
 
@@ -10,37 +10,41 @@ const TOP: f64 = 50.0;
 const BOTTOM: f64 = 50.0;
 const COLOURS: [(&str, &str); 2] = [("ours", "#0b6e4f"), ("Rust", "#b3541e")];
 
-pub fn svg(growth: &[Vec<Row>; 3]) -> String {
-    let (width, height) = (growth.len() as f64 * (WIDTH + LEFT) + 20.0, HEIGHT + TOP + BOTTOM);
+pub fn svg(growth: &[Vec<Row>]) -> String {
+    let (across, down) = (WIDTH + LEFT, HEIGHT + TOP + BOTTOM);
+    let (width, height) = (2.0 * across + 20.0, growth.len().div_ceil(2) as f64 * down);
     let mut out = format!(
         "<svg xmlns=\"http://www.w3.org/2000/svg\" viewBox=\"0 0 {width} {height}\" font-family=\"sans-serif\" font-size=\"12\">\n\
          <rect width=\"{width}\" height=\"{height}\" fill=\"#fff\"/>\n"
     );
     for (i, points) in growth.iter().enumerate() {
-        chart(&mut out, points, i as f64 * (WIDTH + LEFT) + LEFT);
+        let (x, y) = ((i % 2) as f64 * across + LEFT, (i / 2) as f64 * down);
+        let _ = writeln!(out, "<g transform=\"translate({x} {y})\">");
+        chart(&mut out, points);
+        out += "</g>\n";
     }
     out + "</svg>\n"
 }
 
-/// Medians in microseconds against kilobytes, from the corner at `x`.
-fn chart(out: &mut String, points: &[Row], x: f64) {
+/// Medians in microseconds against kilobytes.
+fn chart(out: &mut String, points: &[Row]) {
     let Some(last) = points.last() else { return };
     let sizes: Vec<f64> = points.iter().map(|row| row.bytes as f64 / 1000.0).collect();
-    let times = |side: usize| points.iter().map(|row| row.pair.times()[side].median / 1000.0).collect::<Vec<f64>>();
-    let sides = [times(0), times(1)];
+    let times = |side: usize| points.iter().map(|row| row.sides.times()[side].median / 1000.0).collect::<Vec<f64>>();
+    let sides: Vec<Vec<f64>> = (0..last.sides.times().len()).map(times).collect();
     let (right, high) =
         (round_up(last.bytes as f64 / 1000.0), round_up(sides.iter().flatten().fold(0.0, |a, &b| a.max(b))));
     let base = TOP + HEIGHT;
-    text(out, x, TOP - 28.0, "start", &format!("{}: microseconds against kilobytes", last.group));
+    text(out, 0.0, TOP - 28.0, "start", &format!("{}: microseconds against kilobytes", last.group));
     for tick in 0..=4 {
         let part = f64::from(tick) / 4.0;
-        let (across, up) = (x + part * (WIDTH - 20.0), base - part * HEIGHT);
-        let _ = writeln!(out, "<path d=\"M{x:.1} {up:.1}H{:.1}\" stroke=\"#ddd\"/>", x + WIDTH - 20.0);
-        text(out, x - 6.0, up + 4.0, "end", &short(part * high));
+        let (across, up) = (part * (WIDTH - 20.0), base - part * HEIGHT);
+        let _ = writeln!(out, "<path d=\"M0 {up:.1}H{:.1}\" stroke=\"#ddd\"/>", WIDTH - 20.0);
+        text(out, -6.0, up + 4.0, "end", &short(part * high));
         text(out, across, base + 18.0, "middle", &short(part * right));
     }
-    for (side, (name, colour)) in COLOURS.iter().enumerate() {
-        let at = |i: usize| (x + sizes[i] / right * (WIDTH - 20.0), base - sides[side][i] / high * HEIGHT);
+    for (side, (times, (name, colour))) in sides.iter().zip(COLOURS).enumerate() {
+        let at = |i: usize| (sizes[i] / right * (WIDTH - 20.0), base - times[i] / high * HEIGHT);
         let line: String = (0..points.len()).map(at).map(|(a, b)| format!("{a:.1},{b:.1} ")).collect();
         let _ = writeln!(
             out,
@@ -53,10 +57,10 @@ fn chart(out: &mut String, points: &[Row], x: f64) {
         let _ = writeln!(
             out,
             "<rect x=\"{:.1}\" y=\"{}\" width=\"10\" height=\"10\" fill=\"{colour}\"/>",
-            x + 60.0 * side as f64,
+            60.0 * side as f64,
             TOP - 20.0
         );
-        text(out, x + 60.0 * side as f64 + 14.0, TOP - 11.0, "start", name);
+        text(out, 60.0 * side as f64 + 14.0, TOP - 11.0, "start", name);
     }
 }
 

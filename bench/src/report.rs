@@ -9,7 +9,7 @@ const METHOD: &str = include_str!("method.md");
 const REASONS: &str = include_str!("reasons.md");
 
 /// The text, of the rows, the plot's points and the load before and after.
-pub fn text(table: &[Row], growth: &[Vec<Row>; 3], effort: Effort, load: [&str; 2]) -> String {
+pub fn text(table: &[Row], growth: &[Vec<Row>], effort: Effort, load: [&str; 2]) -> String {
     let mut out = String::from("# Benchmarks\n\n");
     out += "Written by `bench/run`; do not edit.\n\n";
     out += &summary(table);
@@ -32,13 +32,8 @@ pub fn text(table: &[Row], growth: &[Vec<Row>; 3], effort: Effort, load: [&str; 
     out + REASONS
 }
 
-fn ratios(row: &Row) -> [f64; 2] {
-    let [ours, rust] = row.pair.times();
-    [ours.least / rust.least, ours.median / rust.median]
-}
-
 fn summary(table: &[Row]) -> String {
-    let medians: Vec<f64> = table.iter().map(|row| ratios(row)[1]).collect();
+    let medians: Vec<f64> = table.iter().filter_map(|row| row.sides.ratios()).map(|ratios| ratios[1]).collect();
     let count = |over: f64| medians.iter().filter(|&&ratio| ratio > over).count();
     let (all, above, faults) = (medians.len(), count(1.0), count(1.5));
     format!(
@@ -68,11 +63,14 @@ fn heading(first: &str) -> String {
 
 fn line(first: &str, row: &Row) -> String {
     let mut out = format!("| {first} | {} | {} |", some(row.bytes), some(row.items));
-    for Times { least, median } in row.pair.times() {
+    for Times { least, median } in row.sides.times() {
         let _ = write!(out, " {least:.1} | {median:.1} |");
     }
-    let [least, median] = ratios(row);
-    out + &format!(" {least:.2} | {median:.2} |\n")
+    match row.sides.ratios() {
+        Some(ratios) => out.extend(ratios.map(|ratio| format!(" {ratio:.2} |"))),
+        None => out += " – | – | – | – |",
+    }
+    out + "\n"
 }
 
 fn some(n: usize) -> String {
@@ -82,23 +80,21 @@ fn some(n: usize) -> String {
 /// The points of one operation: time by size, and how far the time of a byte moves over them.
 fn grown(points: &[Row]) -> String {
     let Some(first) = points.first() else { return String::new() };
-    let mut out = format!(
-        "\n### {}\n| bytes | items | ours median | a byte | Rust median | a byte | ratio |\n|--:|--:|--:|--:|--:|--:|--:|\n",
-        first.group
-    );
+    let (rust, columns) = match first.sides.ratios() {
+        Some(_) => (" Rust median | a byte | ratio |", 7),
+        None => ("", 4),
+    };
+    let mut out = format!("\n### {}\n| bytes | items | ours median | a byte |{rust}\n|", first.group);
+    out += &("--:|".repeat(columns) + "\n");
     for row in points {
-        let [ours, rust] = row.pair.times().map(|times| (times.median, times.median / row.bytes as f64));
-        let _ = writeln!(
-            out,
-            "| {} | {} | {:.0} | {:.3} | {:.0} | {:.3} | {:.2} |",
-            row.bytes,
-            row.items,
-            ours.0,
-            ours.1,
-            rust.0,
-            rust.1,
-            ratios(row)[1]
-        );
+        let _ = write!(out, "| {} | {} |", row.bytes, row.items);
+        for Times { median, .. } in row.sides.times() {
+            let _ = write!(out, " {median:.0} | {:.3} |", median / row.bytes as f64);
+        }
+        if let Some([_, ratio]) = row.sides.ratios() {
+            let _ = write!(out, " {ratio:.2} |");
+        }
+        out.push('\n');
     }
     out
 }

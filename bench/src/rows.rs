@@ -1,5 +1,7 @@
 //! The rows: an operation, its input, and both sides of it.
-use crate::clock::{Pair, Tally, plain, prepared};
+mod timed;
+
+use crate::clock::{Sides, Tally, plain, prepared};
 use crate::inputs::{self, CID, LOCAL, LONGEST, MASK, VERSIONS, Widths};
 use guobbarel::{CutNumber, Ends, Frame, Frames, FullNumber, Header, Kind, Packets, Written, unmask};
 use oracle::bench as rust;
@@ -15,10 +17,11 @@ pub struct Row {
     pub bytes: usize,
     /// How many frames, packets or blocks; 0 where that says nothing.
     pub items: usize,
-    pub pair: Pair,
+    pub sides: Sides,
 }
 
-pub const INTEGERS: &str = "Integers: MAX_DATA frames";
+pub const INTEGERS: &str = "Integers alone";
+pub const INTEGER_FRAMES: &str = "Frames of one integer (MAX_DATA)";
 pub const SPLIT: &str = "Split";
 pub const FINISH: &str = "Finish";
 pub const HEADERS: &str = "Header write";
@@ -26,7 +29,9 @@ pub const PROTECT: &str = "Protect";
 pub const WALK: &str = "Frame walk";
 pub const SCAN: &str = "ACK scan";
 pub const RANGES: &str = "ACK ranges";
+pub const ENCODERS: &str = "Encoders";
 pub const NUMBERS: &str = "Packet numbers";
+pub const DUMP: &str = "Dump";
 
 type Rows = Result<Vec<Row>, String>;
 
@@ -35,18 +40,17 @@ fn row(
     group: &'static str,
     input: String,
     [bytes, items]: [usize; 2],
-    pair: Result<Pair, String>,
+    sides: Result<Sides, String>,
 ) -> Result<Row, String> {
-    let pair = pair.map_err(|why| format!("{group}, {input}: {why}"))?;
-    Ok(Row { group, input, bytes, items, pair })
+    let sides = sides.map_err(|why| format!("{group}, {input}: {why}"))?;
+    Ok(Row { group, input, bytes, items, sides })
 }
 
 /// Every row of the table.
 pub fn all() -> Rows {
-    Ok([integers()?, split()?, finish()?, headers()?, protect()?, walks()?, scans()?, numbers()?]
-        .into_iter()
-        .flatten()
-        .collect())
+    let reading = [timed::integers()?, integer_frames()?, split()?, finish()?];
+    let frames = [headers()?, protect()?, walks()?, scans()?, timed::encoders()?, numbers()?];
+    Ok(reading.into_iter().chain(frames).flatten().collect())
 }
 
 /// The frames of a payload: how many, and their bytes.
@@ -62,13 +66,16 @@ fn walk(payload: &[u8]) -> Tally {
 fn walked(group: &'static str, input: String, payload: Vec<u8>, items: Option<usize>) -> Result<Row, String> {
     let theirs = rust::Payload::new(&payload);
     let sizes = [payload.len(), items.or(walk(&payload).map(|tally| tally.0 as usize)).unwrap_or(0)];
-    let pair = Pair::plain(plain(move || walk(black_box(&payload))), plain(move || black_box(&theirs).walk()));
-    row(group, input, sizes, pair)
+    let sides = Sides::plain([plain(move || walk(black_box(&payload))), plain(move || black_box(&theirs).walk())]);
+    row(group, input, sizes, sides)
 }
 
-fn integers() -> Rows {
+fn integer_frames() -> Rows {
     [1, 2, 4, 8]
-        .map(|width| walked(INTEGERS, format!("{width}-byte integer"), inputs::max_data(1000, width), None))
+        .map(|width| {
+            let payload = inputs::integers(1000, Widths::All(width), &[0x10]);
+            walked(INTEGER_FRAMES, format!("{width}-byte integer"), payload, None)
+        })
         .into_iter()
         .collect()
 }
@@ -111,8 +118,8 @@ fn scans() -> Rows {
     let (payload, held) = inputs::ack(1000, Widths::Mixed);
     let theirs = rust::Payload::new(&payload);
     let sizes = [payload.len(), held];
-    let pair = Pair::plain(plain(move || ranges(black_box(&payload))), plain(move || black_box(&theirs).ranges()));
-    rows.push(row(RANGES, "mixed fields, scanned and then read".into(), sizes, pair)?);
+    let sides = Sides::plain([plain(move || ranges(black_box(&payload))), plain(move || black_box(&theirs).ranges())]);
+    rows.push(row(RANGES, "mixed fields, scanned and then read".into(), sizes, sides)?);
     Ok(rows)
 }
 
@@ -131,7 +138,7 @@ fn splits(input: String, datagram: Vec<u8>, items: usize) -> Result<Row, String>
     let given = datagram.clone();
     let ours = prepared(move || datagram.clone(), |datagram| packets(datagram));
     let theirs = prepared(move || rust::Datagram::new(&given), |datagram| datagram.walk(LOCAL, black_box(&VERSIONS)));
-    row(SPLIT, input, sizes, Pair::prepared(ours, theirs, sizes[0]))
+    row(SPLIT, input, sizes, Sides::prepared([ours, theirs], sizes[0]))
 }
 
 fn split() -> Rows {
@@ -160,7 +167,7 @@ fn finished(input: &str, kind: Kind, packet: Vec<u8>) -> Result<Row, String> {
         move || rust::Split::new(&given, LOCAL, &VERSIONS),
         move |packet| packet.as_mut()?.finish(black_box(&key)),
     );
-    row(FINISH, input.into(), sizes, Pair::prepared(ours, theirs, sizes[0]))
+    row(FINISH, input.into(), sizes, Sides::prepared([ours, theirs], sizes[0]))
 }
 
 fn finish() -> Rows {
@@ -230,7 +237,7 @@ fn headers() -> Rows {
             Some((written.header_len as u64, written.number_len as u64))
         });
         let theirs = plain(move || black_box(&theirs.theirs).encode(&mut w));
-        row(HEADERS, name.into(), [bytes, 0], Pair::plain(ours, theirs))
+        row(HEADERS, name.into(), [bytes, 0], Sides::plain([ours, theirs]))
     };
     (0..3).map(one).collect()
 }
@@ -259,7 +266,7 @@ fn protect() -> Rows {
                 first(packet)
             },
         );
-        row(PROTECT, head.name.into(), sizes, Pair::prepared(ours, theirs, sizes[0]))
+        row(PROTECT, head.name.into(), sizes, Sides::prepared([ours, theirs], sizes[0]))
     };
     heads()[1..].iter().map(one).collect()
 }
@@ -273,27 +280,27 @@ fn numbers() -> Rows {
         black_box(&ends);
         Some((sent.cut.len() as u64, sent.number.get()))
     });
-    let cut = plain(move || Some(rust::cut(black_box(next), black_box(acked))));
     let number = CutNumber::new(CUT.0, CUT.1);
     let read = plain(move || {
         let full = black_box(&ends).read(black_box(number)).ok()?;
         Some((number.len() as u64, full.get()))
     });
-    let theirs = rust::Cut::new(CUT.0 as u64, CUT.1);
-    let expand = plain(move || Some(black_box(&theirs).expand(black_box(accepted + 1))));
-    Ok(vec![
-        row(NUMBERS, "send, against PacketNumber::new".into(), [0, 0], Pair::plain(sent, cut))?,
-        row(NUMBERS, "read, against PacketNumber::expand".into(), [0, 0], Pair::plain(read, expand))?,
-    ])
+    let mut rows = timed::numbers(next, acked, accepted + 1)?;
+    rows.push(row(NUMBERS, "send, a step of the number ends".into(), [0, 0], Sides::plain([sent]))?);
+    rows.push(row(NUMBERS, "read, a step of the number ends".into(), [0, 0], Sides::plain([read]))?);
+    Ok(rows)
 }
 
-/// The points of the plot: for each of three operations its inputs, from small to large.
-pub fn growth() -> Result<[Vec<Row>; 3], String> {
-    let split = [1, 2, 5, 10, 20, 50, 100, 200, 400, 655].map(|n| splits(String::new(), inputs::handshakes(n), n));
+/// The points of the plot: for each of four operations its inputs, from small to large.
+pub fn growth() -> Result<[Vec<Row>; 4], String> {
+    const PACKETS: [usize; 10] = [1, 2, 5, 10, 20, 50, 100, 200, 400, 655];
+    let dump = PACKETS.map(timed::dumped);
+    let split = PACKETS.map(|n| splits(String::new(), inputs::handshakes(n), n));
     let walk = [500, 1000, 2000, 5000, 10_000, 20_000, 40_000, LONGEST]
         .map(|bytes| walked(WALK, String::new(), inputs::small_frames(bytes), None));
     let scans = [100, 200, 500, 1000, 2000, 4000, 8000, 16_000].map(|blocks| scan(blocks, Widths::All(2)));
     Ok([
+        dump.into_iter().collect::<Rows>()?,
         split.into_iter().collect::<Rows>()?,
         walk.into_iter().collect::<Rows>()?,
         scans.into_iter().collect::<Rows>()?,

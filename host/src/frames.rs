@@ -130,6 +130,7 @@ impl<'a> Frames<'a> {
 impl<'a> Iterator for Frames<'a> {
     type Item = Result<Read<'a>, FrameRefused>;
 
+    #[inline(always)] // a frame that is looked at on the spot need not go through memory
     fn next(&mut self) -> Option<Self::Item> {
         if self.ended {
             return None;
@@ -153,6 +154,7 @@ impl<'a> Iterator for Frames<'a> {
 impl core::iter::FusedIterator for Frames<'_> {}
 
 /// The frame of an answer, by its name; none for a name that no frame has, which no answer says.
+#[inline(always)]
 fn frame<'a>(a: &FrameAnswer, payload: &'a [u8]) -> Option<Frame<'a>> {
     let number = |i: usize| a.value[i].number;
     let id = |i: usize| StreamId::new(number(i));

@@ -52,6 +52,8 @@ pub mod harness;
 
 /// What the benchmarks time.
 pub mod bench {
-    pub use crate::frame::probe::bench::Payload;
+    pub use crate::frame::probe::bench::{
+        Payload, ack, connection_close, crypto, new_connection_id, read_vars, reset_stream, stream_meta,
+    };
     pub use crate::packet::probe::bench::{Cut, Datagram, Head, Split, cut, protect};
 }

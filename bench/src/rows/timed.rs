@@ -1,0 +1,132 @@
+//! Rows over `libtimed.a`: integers by themselves, packet numbers, encoders, and the dump.
+use super::{CUT, DUMP, ENCODERS, INTEGERS, NUMBERS, Row, Rows, row};
+use crate::clock::{Sides, plain};
+use crate::ffi;
+use crate::inputs::{self, CID, Widths};
+use oracle::TransportErrorCode;
+use oracle::bench as rust;
+use std::hint::black_box;
+
+pub fn integers() -> Rows {
+    [Widths::All(1), Widths::All(2), Widths::All(4), Widths::All(8), Widths::Mixed]
+        .map(|widths| {
+            let ours = inputs::integers(1000, widths, &[]);
+            let (sizes, theirs) = ([ours.len(), 1000], ours.clone());
+            let ours = plain(move || ffi::read_vars(black_box(&ours)));
+            let theirs = plain(move || rust::read_vars(black_box(&theirs)));
+            row(INTEGERS, format!("{} integers", widths.name()), sizes, Sides::plain([ours, theirs]))
+        })
+        .into_iter()
+        .collect()
+}
+
+/// A number cut, and a cut one read back.
+pub fn numbers(number: u64, acked: u64, expected: u64) -> Rows {
+    let cut = plain(move || Some((ffi::cut(black_box(number), black_box(acked))?.0 as u64, number)));
+    let new = plain(move || Some(rust::cut(black_box(number), black_box(acked))));
+    let read = plain(move || {
+        let (len, value) = black_box(CUT);
+        Some((len as u64, ffi::expand(len, value, black_box(expected))?))
+    });
+    let theirs = rust::Cut::new(CUT.0 as u64, CUT.1);
+    let expand = plain(move || Some(black_box(&theirs).expand(black_box(expected))));
+    Ok(vec![
+        row(NUMBERS, "cut by the largest acknowledged".into(), [0, 0], Sides::plain([cut, new]))?,
+        row(NUMBERS, "read back by the expected one".into(), [0, 0], Sides::plain([read, expand]))?,
+    ])
+}
+
+/// A frame that both sides write; an error where the bytes are not the same.
+fn encoded(
+    input: &str,
+    items: usize,
+    ours: impl Fn(&mut [u8]) -> Option<usize> + 'static,
+    theirs: impl Fn(&mut Vec<u8>) + 'static,
+) -> Result<Row, String> {
+    let (mut out, mut w) = (vec![0; 2000], Vec::with_capacity(2000));
+    let bytes = ours(&mut out).unwrap_or(0);
+    theirs(&mut w);
+    if out[..bytes] != w[..] {
+        return Err(format!("{ENCODERS}, {input}: the bytes are not the Rust's"));
+    }
+    let ours = plain(move || {
+        let len = ours(&mut out)?;
+        black_box(&out[..]);
+        Some((len as u64, out[0].into()))
+    });
+    let theirs = plain(move || {
+        w.clear();
+        theirs(&mut w);
+        black_box(&w[..]);
+        Some((w.len() as u64, w[0].into()))
+    });
+    row(ENCODERS, input.into(), [bytes, items], Sides::plain([ours, theirs]))
+}
+
+/// An ACK of so many ranges.
+fn acked(count: usize, widths: Widths) -> Result<Row, String> {
+    let ranges = inputs::ranges(count, widths);
+    let theirs = rust::ack(100, ranges.chunks(2).map(|range| range[0]..range[1]).collect());
+    let ours = move |out: &mut [u8]| ffi::ack(black_box(100), black_box(&ranges), out);
+    encoded(&format!("ACK, {} fields", widths.name()), count, ours, theirs)
+}
+
+pub fn encoders() -> Rows {
+    let code = TransportErrorCode::PROTOCOL_VIOLATION;
+    let (data, token, reason) = ([0x5a; 1000], [0x77; 16], [0x6e; 40]);
+    [
+        encoded(
+            "RESET_STREAM: three integers",
+            0,
+            |out| ffi::reset_stream(black_box(4), black_box(256), black_box(70_000), out),
+            rust::reset_stream(4, 256, 70_000),
+        ),
+        encoded(
+            "STREAM up to its data: id, offset and length",
+            0,
+            |out| {
+                let [fin, has_length] = black_box([false, true]);
+                ffi::stream_meta(black_box(4), black_box(70_000), black_box(71_000), fin, has_length, out)
+            },
+            rust::stream_meta(4, 70_000..71_000),
+        ),
+        encoded(
+            "CRYPTO, data of 1,000 bytes",
+            0,
+            move |out| ffi::crypto(black_box(70_000), black_box(&data), out),
+            rust::crypto(70_000, data.into()),
+        ),
+        encoded(
+            "NEW_CONNECTION_ID, an id of 8 bytes",
+            0,
+            move |out| ffi::new_connection_id(black_box(3), black_box(1), black_box(&CID), black_box(&token), out),
+            rust::new_connection_id(3, 1, &CID, token),
+        ),
+        encoded(
+            "CONNECTION_CLOSE, a reason of 40 bytes",
+            0,
+            move |out| {
+                ffi::connection_close(black_box(code.into()), black_box(0), black_box(&reason), black_box(1200), out)
+            },
+            rust::connection_close(code, reason.into(), 1200),
+        ),
+        acked(4, Widths::All(1)),
+        acked(100, Widths::All(1)),
+        acked(100, Widths::Mixed),
+    ]
+    .into_iter()
+    .collect()
+}
+
+/// The dump of so many packets of 100 bytes. The Rust has no such text.
+pub fn dumped(packets: usize) -> Result<Row, String> {
+    let datagram = inputs::handshakes(packets);
+    let sizes = [datagram.len(), packets];
+    let mut out = vec![0; 4 * datagram.len() + 64];
+    let ours = plain(move || {
+        let len = ffi::dump(black_box(&datagram), &mut out)?;
+        black_box(&out[..]);
+        Some((packets as u64, len as u64))
+    });
+    row(DUMP, String::new(), sizes, Sides::plain([ours]))
+}
