@@ -26,6 +26,7 @@ pub const SPLIT: &str = "Split";
 pub const FINISH: &str = "Finish";
 pub const HEADERS: &str = "Header write";
 pub const PROTECT: &str = "Protect";
+pub const WHOLE: &str = "Header write and protect together";
 pub const WALK: &str = "Frame walk";
 pub const SCAN: &str = "ACK scan";
 pub const RANGES: &str = "ACK ranges";
@@ -49,7 +50,7 @@ fn row(
 /// Every row of the table.
 pub fn all() -> Rows {
     let reading = [timed::integers()?, integer_frames()?, split()?, finish()?];
-    let frames = [headers()?, protect()?, walks()?, scans()?, timed::encoders()?, numbers()?];
+    let frames = [headers()?, protect()?, whole()?, walks()?, scans()?, timed::encoders()?, numbers()?];
     Ok(reading.into_iter().chain(frames).flatten().collect())
 }
 
@@ -194,21 +195,21 @@ fn heads() -> [Head; 3] {
     [
         Head {
             name: "Initial, token of 32 bytes",
-            ours: Header::Initial { version: 1, number },
+            ours: Header::initial(1, number),
             theirs: rust::Head::initial(1, &CID, &CID, token, cut()),
             src_cid: &CID,
             token,
         },
         Head {
             name: "Handshake",
-            ours: Header::Handshake { version: 1, number },
+            ours: Header::handshake(1, number),
             theirs: rust::Head::handshake(1, &CID, &CID, cut()),
             src_cid: &CID,
             token: &[],
         },
         Head {
             name: "short",
-            ours: Header::Short { spin: false, key_phase: false, number },
+            ours: Header::short(false, false, number),
             theirs: rust::Head::short(&CID, cut()),
             src_cid: &[],
             token: &[],
@@ -225,10 +226,15 @@ impl Head {
     }
 }
 
+/// The same header for each side.
+fn pair(i: usize) -> Result<(Head, Head), String> {
+    let [ours, theirs] = [heads(), heads()].map(|heads| heads.into_iter().nth(i));
+    Ok(ours.zip(theirs).ok_or("no such header")?)
+}
+
 fn headers() -> Rows {
     let one = |i: usize| {
-        let [ours, theirs] = [heads(), heads()].map(|heads| heads.into_iter().nth(i));
-        let (ours, theirs) = ours.zip(theirs).ok_or("no such header")?;
+        let (ours, theirs) = pair(i)?;
         let (mut out, mut w) = (vec![0; 1500], Vec::with_capacity(1500));
         let (name, bytes) = (ours.name, ours.write(&mut out).map_or(0, |written| written.header_len));
         let ours = plain(move || {
@@ -242,33 +248,45 @@ fn headers() -> Rows {
     (0..3).map(one).collect()
 }
 
-/// A packet with its header, as encryption leaves it.
+/// Header protection over a packet as encryption leaves it. `whole`: the call writes the header too, into another buffer.
+fn protected(section: &'static str, i: usize, whole: bool) -> Result<Row, String> {
+    let (ours, theirs) = pair(i)?;
+    let (name, mut packet) = (ours.name, vec![0xa5; 1500]);
+    let told = ours.write(&mut packet).ok_or("the header is refused")?;
+    packet.truncate(told.header_len + PAYLOAD);
+    let (sizes, given) = ([packet.len(), 0], packet.clone());
+    let first = |packet: &[u8]| Some((packet[0].into(), packet.len() as u64));
+    let (mut out, mut w) = (vec![0; 1500], Vec::with_capacity(1500));
+    let ours = prepared(
+        move || packet.clone(),
+        move |packet| {
+            let written = if whole { black_box(&ours).write(&mut out)? } else { *black_box(&told) };
+            written.protect(packet, black_box(&MASK)).ok()?;
+            first(packet)
+        },
+    );
+    let key = MaskKey(MASK);
+    let theirs = prepared(
+        move || given.clone(),
+        move |packet| {
+            if whole {
+                black_box(&theirs.theirs).encode(&mut w)?;
+            }
+            let told = black_box(&told);
+            rust::protect(told.header_len, told.number_len, told.has_length, packet, black_box(&key));
+            first(packet)
+        },
+    );
+    row(section, name.into(), sizes, Sides::prepared([ours, theirs], sizes[0]))
+}
+
 fn protect() -> Rows {
-    let one = |head: &Head| {
-        let mut packet = vec![0xa5; 1500];
-        let written = head.write(&mut packet).ok_or("the header is refused")?;
-        packet.truncate(written.header_len + PAYLOAD);
-        let (sizes, given) = ([packet.len(), 0], packet.clone());
-        let first = |packet: &[u8]| Some((packet[0].into(), packet.len() as u64));
-        let ours = prepared(
-            move || packet.clone(),
-            move |packet| {
-                black_box(&written).protect(packet, black_box(&MASK)).ok()?;
-                first(packet)
-            },
-        );
-        let key = MaskKey(MASK);
-        let theirs = prepared(
-            move || given.clone(),
-            move |packet| {
-                let told = black_box(&written);
-                rust::protect(told.header_len, told.number_len, told.has_length, packet, black_box(&key));
-                first(packet)
-            },
-        );
-        row(PROTECT, head.name.into(), sizes, Sides::prepared([ours, theirs], sizes[0]))
-    };
-    heads()[1..].iter().map(one).collect()
+    (1..3).map(|i| protected(PROTECT, i, false)).collect()
+}
+
+/// Both together: the Length is written by our header write, and by the Rust's protection.
+fn whole() -> Rows {
+    (0..3).map(|i| protected(WHOLE, i, true)).collect()
 }
 
 fn numbers() -> Rows {

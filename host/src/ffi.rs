@@ -105,7 +105,7 @@ pub(crate) struct NumberAnswer {
 
 /// `guobbarel_header`
 #[repr(C)]
-#[derive(Clone, Copy)]
+#[derive(Clone, Copy, Debug, PartialEq, Eq)]
 pub(crate) struct HeaderGiven {
     pub(crate) kind: u8,
     pub(crate) spin: u8,

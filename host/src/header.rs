@@ -2,25 +2,55 @@
 use crate::ffi::{self, HeaderGiven};
 use crate::{CutNumber, Error, Kind};
 
-/// A header to write, without its connection ids and its token.
+/// A header to write, without its connection ids and its token. It is the record that goes over the C surface.
 #[derive(Clone, Copy, Debug, PartialEq, Eq)]
-#[allow(missing_docs)] // the fields have RFC 9000's names
-pub enum Header {
-    /// An Initial.
-    Initial { version: u32, number: CutNumber },
-    /// A 0-RTT packet.
-    ZeroRtt { version: u32, number: CutNumber },
-    /// A Handshake packet.
-    Handshake { version: u32, number: CutNumber },
-    /// A Retry.
-    Retry { version: u32 },
-    /// A packet with a short header.
-    Short { spin: bool, key_phase: bool, number: CutNumber },
-    /// Version Negotiation, with the bits below the form bit.
-    VersionNegotiation { random: u8 },
-}
+pub struct Header(HeaderGiven);
 
 impl Header {
+    /// An Initial.
+    pub const fn initial(version: u32, number: CutNumber) -> Header {
+        Header::of(Kind::Initial, version, number)
+    }
+
+    /// A 0-RTT packet.
+    pub const fn zero_rtt(version: u32, number: CutNumber) -> Header {
+        Header::of(Kind::ZeroRtt, version, number)
+    }
+
+    /// A Handshake packet.
+    pub const fn handshake(version: u32, number: CutNumber) -> Header {
+        Header::of(Kind::Handshake, version, number)
+    }
+
+    /// A Retry.
+    pub const fn retry(version: u32) -> Header {
+        Header::of(Kind::Retry, version, NO_NUMBER)
+    }
+
+    /// A packet with a short header.
+    pub const fn short(spin: bool, key_phase: bool, number: CutNumber) -> Header {
+        let Header(given) = Header::of(Kind::Short, 0, number);
+        Header(HeaderGiven { spin: spin as u8, key_phase: key_phase as u8, ..given })
+    }
+
+    /// Version Negotiation, with the bits below the form bit.
+    pub const fn version_negotiation(random: u8) -> Header {
+        let Header(given) = Header::of(Kind::VersionNegotiation, 0, NO_NUMBER);
+        Header(HeaderGiven { random, ..given })
+    }
+
+    const fn of(kind: Kind, version: u32, number: CutNumber) -> Header {
+        Header(HeaderGiven {
+            kind: kind as u8,
+            spin: 0,
+            key_phase: 0,
+            random: 0,
+            version,
+            number_value: number.value(),
+            number_len: number.len(),
+        })
+    }
+
     /// Writes the header from byte 0 of `out` on, for a payload of `payload_len` bytes (ciphertext with its tag) to follow it.
     /// A short header has no source CID, and only an Initial has a token: what a kind does not have is not looked at.
     ///
@@ -35,42 +65,16 @@ impl Header {
         payload_len: usize,
         out: &mut [u8],
     ) -> Result<Written, Error> {
-        let a = ffi::header_write(self.given(), dst_cid, src_cid, token, payload_len, out);
+        let a = ffi::header_write(self.0, dst_cid, src_cid, token, payload_len, out);
         match Error::from_number(a.refusal) {
             Some(error) => Err(error),
             None => Ok(Written { header_len: a.header_len, number_len: a.number_len, has_length: a.has_length == 1 }),
         }
     }
-
-    fn given(&self) -> HeaderGiven {
-        let none = CutNumber::new(0, 0);
-        let (kind, version, number) = match *self {
-            Header::Initial { version, number } => (Kind::Initial, version, number),
-            Header::ZeroRtt { version, number } => (Kind::ZeroRtt, version, number),
-            Header::Handshake { version, number } => (Kind::Handshake, version, number),
-            Header::Retry { version } => (Kind::Retry, version, none),
-            Header::Short { number, .. } => (Kind::Short, 0, number),
-            Header::VersionNegotiation { .. } => (Kind::VersionNegotiation, 0, none),
-        };
-        let (spin, key_phase) = match *self {
-            Header::Short { spin, key_phase, .. } => (spin, key_phase),
-            _ => (false, false),
-        };
-        let random = match *self {
-            Header::VersionNegotiation { random } => random,
-            _ => 0,
-        };
-        HeaderGiven {
-            kind: kind as u8,
-            spin: spin.into(),
-            key_phase: key_phase.into(),
-            random,
-            version,
-            number_value: number.value(),
-            number_len: number.len(),
-        }
-    }
 }
+
+/// The number of a header that has none.
+const NO_NUMBER: CutNumber = CutNumber::new(0, 0);
 
 /// What a header was written with.
 #[derive(Clone, Copy, Debug, PartialEq, Eq)]

@@ -274,7 +274,7 @@ fn numbers_are_sent_read_and_accepted() {
 #[test]
 fn a_header_is_written_masked_and_read_back() {
     let number = CutNumber::new(2, 0x0102);
-    let header = Header::Initial { version: 1, number };
+    let header = Header::initial(1, number);
     let mut packet = vec![0xee; 100];
     let written = header.write(&[0xd1, 0xd2], &[0x55], &[0x77; 3], 40, &mut packet).unwrap();
     assert_eq!((written.number_len, written.has_length), (2, true));
@@ -301,11 +301,11 @@ fn every_kind_is_written() {
         let written = header.write(&[0xdd], &[0x55], &[], 20, &mut out).unwrap();
         (written.has_length, written.number_len, out[..written.header_len].to_vec())
     };
-    assert_eq!(write(Header::ZeroRtt { version: 1, number }), (true, 1, bytes("d0 00000001 01dd 0155 4015 09")));
-    assert_eq!(write(Header::Handshake { version: 1, number }), (true, 1, bytes("e0 00000001 01dd 0155 4015 09")));
-    assert_eq!(write(Header::Retry { version: 1 }), (false, 0, bytes("f0 00000001 01dd 0155")));
-    assert_eq!(write(Header::Short { spin: true, key_phase: true, number }), (false, 1, bytes("64 dd 09")));
-    assert_eq!(write(Header::VersionNegotiation { random: 5 }), (false, 0, bytes("85 00000000 01dd 0155")));
+    assert_eq!(write(Header::zero_rtt(1, number)), (true, 1, bytes("d0 00000001 01dd 0155 4015 09")));
+    assert_eq!(write(Header::handshake(1, number)), (true, 1, bytes("e0 00000001 01dd 0155 4015 09")));
+    assert_eq!(write(Header::retry(1)), (false, 0, bytes("f0 00000001 01dd 0155")));
+    assert_eq!(write(Header::short(true, true, number)), (false, 1, bytes("64 dd 09")));
+    assert_eq!(write(Header::version_negotiation(5)), (false, 0, bytes("85 00000000 01dd 0155")));
 }
 
 #[test]
@@ -313,18 +313,18 @@ fn headers_are_refused_and_leave_the_buffer() {
     let before = [0xee; 70_000];
     let mut out = before;
     let number = CutNumber::new(1, 9);
-    let handshake = Header::Handshake { version: 1, number };
+    let handshake = Header::handshake(1, number);
     assert_eq!(handshake.write(&[0; 21], &[], &[], 0, &mut out), Err(Error::Argument));
     assert_eq!(handshake.write(&[], &[0; 21], &[], 0, &mut out), Err(Error::Argument));
     assert_eq!(handshake.write(&[], &[], &[], 16_383, &mut out), Err(Error::Argument));
     assert_eq!(handshake.write(&[], &[], &[], usize::MAX, &mut out), Err(Error::Argument));
     assert_eq!(handshake.write(&[], &[], &[], 0, &mut out[..9]), Err(Error::Room));
-    let wrong = Header::Handshake { version: 1, number: CutNumber::new(1, 256) };
+    let wrong = Header::handshake(1, CutNumber::new(1, 256));
     assert_eq!(wrong.write(&[], &[], &[], 0, &mut out[..9]), Err(Error::Argument));
-    let short = Header::Short { spin: false, key_phase: false, number };
+    let short = Header::short(false, false, number);
     assert_eq!(short.write(&[], &[], &[], 65_526, &mut out), Err(Error::Argument));
     assert_eq!(short.write(&[], &[], &[0; 65_528], 0, &mut out), Err(Error::Argument));
-    let initial = Header::Initial { version: 1, number };
+    let initial = Header::initial(1, number);
     assert_eq!(initial.write(&[], &[], &[0; 60_000], 6_000, &mut out), Err(Error::Argument));
     assert_eq!(out, before);
     assert_eq!(handshake.write(&[], &[], &[], 16_382, &mut out).unwrap().header_len, 10);

@@ -36,6 +36,24 @@ pub fn numbers(number: u64, acked: u64, expected: u64) -> Rows {
     ])
 }
 
+/// Bytes for frames to carry, the same for both sides. They stand half a page from where a frame is written: a load and a store
+/// whose addresses agree in their low twelve bits wait for each other.
+#[repr(align(4096))]
+struct Pages([u8; 2 * PAGE]);
+static CARRIED: Pages = Pages([0x5a; 2 * PAGE]);
+
+fn carried(len: usize) -> &'static [u8] {
+    &CARRIED.0[PAGE / 2..PAGE / 2 + len]
+}
+
+const PAGE: usize = 4096;
+const ROOM: usize = 2000;
+
+/// How far it is to the next page from where these bytes stand: both sides write at the start of one.
+fn page_start(bytes: &[u8]) -> usize {
+    bytes.as_ptr().align_offset(PAGE)
+}
+
 /// A frame that both sides write; an error where the bytes are not the same.
 fn encoded(
     input: &str,
@@ -43,22 +61,25 @@ fn encoded(
     ours: impl Fn(&mut [u8]) -> Option<usize> + 'static,
     theirs: impl Fn(&mut Vec<u8>) + 'static,
 ) -> Result<Row, String> {
-    let (mut out, mut w) = (vec![0; 2000], Vec::with_capacity(2000));
-    let bytes = ours(&mut out).unwrap_or(0);
+    let (mut out, mut w) = (vec![0; ROOM + PAGE], Vec::with_capacity(ROOM + PAGE));
+    let [from, start] = [page_start(&out), page_start(&w)];
+    w.resize(start, 0);
+    let bytes = ours(&mut out[from..]).unwrap_or(0);
     theirs(&mut w);
-    if out[..bytes] != w[..] {
+    if out[from..from + bytes] != w[start..] {
         return Err(format!("{ENCODERS}, {input}: the bytes are not the Rust's"));
     }
     let ours = plain(move || {
-        let len = ours(&mut out)?;
-        black_box(&out[..]);
+        let out = &mut out[from..];
+        let len = ours(out)?;
+        black_box(&*out);
         Some((len as u64, out[0].into()))
     });
     let theirs = plain(move || {
-        w.clear();
+        w.truncate(start);
         theirs(&mut w);
-        black_box(&w[..]);
-        Some((w.len() as u64, w[0].into()))
+        let out = black_box(&w[start..]);
+        Some((out.len() as u64, out[0].into()))
     });
     row(ENCODERS, input.into(), [bytes, items], Sides::plain([ours, theirs]))
 }
@@ -73,7 +94,7 @@ fn acked(count: usize, widths: Widths) -> Result<Row, String> {
 
 pub fn encoders() -> Rows {
     let code = TransportErrorCode::PROTOCOL_VIOLATION;
-    let (data, token, reason) = ([0x5a; 1000], [0x77; 16], [0x6e; 40]);
+    let (data, reason, token) = (carried(1000), carried(40), [0x77; 16]);
     [
         encoded(
             "RESET_STREAM: three integers",
@@ -93,8 +114,8 @@ pub fn encoders() -> Rows {
         encoded(
             "CRYPTO, data of 1,000 bytes",
             0,
-            move |out| ffi::crypto(black_box(70_000), black_box(&data), out),
-            rust::crypto(70_000, data.into()),
+            move |out| ffi::crypto(black_box(70_000), black_box(data), out),
+            rust::crypto(70_000, data),
         ),
         encoded(
             "NEW_CONNECTION_ID, an id of 8 bytes",
@@ -106,9 +127,9 @@ pub fn encoders() -> Rows {
             "CONNECTION_CLOSE, a reason of 40 bytes",
             0,
             move |out| {
-                ffi::connection_close(black_box(code.into()), black_box(0), black_box(&reason), black_box(1200), out)
+                ffi::connection_close(black_box(code.into()), black_box(0), black_box(reason), black_box(1200), out)
             },
-            rust::connection_close(code, reason.into(), 1200),
+            rust::connection_close(code, reason, 1200),
         ),
         acked(4, Widths::All(1)),
         acked(100, Widths::All(1)),

@@ -120,12 +120,12 @@ fn header(words: &mut Words) -> Result<String, No> {
     let number = CutNumber::new(words.number()?, words.number()?);
     let (dst_cid, src_cid, token, payload_len) = (words.bytes()?, words.bytes()?, words.bytes()?, words.number()?);
     let header = match kind {
-        Kind::Initial => Header::Initial { version, number },
-        Kind::ZeroRtt => Header::ZeroRtt { version, number },
-        Kind::Handshake => Header::Handshake { version, number },
-        Kind::Retry => Header::Retry { version },
-        Kind::Short => Header::Short { spin, key_phase, number },
-        Kind::VersionNegotiation => Header::VersionNegotiation { random },
+        Kind::Initial => Header::initial(version, number),
+        Kind::ZeroRtt => Header::zero_rtt(version, number),
+        Kind::Handshake => Header::handshake(version, number),
+        Kind::Retry => Header::retry(version),
+        Kind::Short => Header::short(spin, key_phase, number),
+        Kind::VersionNegotiation => Header::version_negotiation(random),
     };
     let mut out = vec![0; 65_527];
     let written = header.write(&dst_cid, &src_cid, &token, payload_len, &mut out)?;

@@ -23,12 +23,12 @@ impl Given {
     fn new(a: &mut Args) -> Result<Self, Bad> {
         let kind = kind(a)?;
         let header = match kind {
-            Kind::Initial => Header::Initial { version: version(a)?, number: number(a)? },
-            Kind::ZeroRtt => Header::ZeroRtt { version: version(a)?, number: number(a)? },
-            Kind::Handshake => Header::Handshake { version: version(a)?, number: number(a)? },
-            Kind::Retry => Header::Retry { version: version(a)? },
-            Kind::Short => Header::Short { spin: a.flag()?, key_phase: a.flag()?, number: number(a)? },
-            Kind::VersionNegotiation => Header::VersionNegotiation { random: a.below(256)? as u8 },
+            Kind::Initial => Header::initial(version(a)?, number(a)?),
+            Kind::ZeroRtt => Header::zero_rtt(version(a)?, number(a)?),
+            Kind::Handshake => Header::handshake(version(a)?, number(a)?),
+            Kind::Retry => Header::retry(version(a)?),
+            Kind::Short => Header::short(a.flag()?, a.flag()?, number(a)?),
+            Kind::VersionNegotiation => Header::version_negotiation(a.below(256)? as u8),
         };
         let dst = a.bytes()?;
         let src = if kind == Kind::Short { Vec::new() } else { a.bytes()? };

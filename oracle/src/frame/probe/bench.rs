@@ -60,8 +60,8 @@ pub fn stream_meta(id: u64, offsets: Range<u64>) -> impl Fn(&mut Vec<u8>) {
     move |w| black_box(&frame).encode(black_box(length), w)
 }
 
-pub fn crypto(offset: u64, data: Vec<u8>) -> impl Fn(&mut Vec<u8>) {
-    let frame = Crypto { offset, data: data.into() };
+pub fn crypto(offset: u64, data: &'static [u8]) -> impl Fn(&mut Vec<u8>) {
+    let frame = Crypto { offset, data: Bytes::from_static(data) };
     move |w| black_box(&frame).encode(w)
 }
 
@@ -75,8 +75,12 @@ pub fn new_connection_id(
     move |w| black_box(&frame).encode(w)
 }
 
-pub fn connection_close(error_code: TransportErrorCode, reason: Vec<u8>, max_len: usize) -> impl Fn(&mut Vec<u8>) {
-    let frame = ConnectionClose { error_code, frame_type: None, reason: reason.into() };
+pub fn connection_close(
+    error_code: TransportErrorCode,
+    reason: &'static [u8],
+    max_len: usize,
+) -> impl Fn(&mut Vec<u8>) {
+    let frame = ConnectionClose { error_code, frame_type: None, reason: Bytes::from_static(reason) };
     move |w| black_box(&frame).encode(w, black_box(max_len))
 }
 
