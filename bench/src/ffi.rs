@@ -3,23 +3,16 @@
 #![allow(unsafe_code)]
 
 #[repr(C)]
-struct VarsAnswer {
+struct GatheredAnswer {
     refusal: u8,
     count: usize,
     mixed: u64,
 }
 
-#[repr(C)]
-struct NumberSaid {
-    refusal: u8,
-    len: usize,
-    number: u64,
-}
-
-impl NumberSaid {
-    /// Its bytes where it is cut, else 0, and the number; None where it is refused.
-    fn said(self) -> Option<(usize, u64)> {
-        (self.refusal == 0).then_some((self.len, self.number))
+impl GatheredAnswer {
+    /// How many, and the exclusive or of all; None where one is refused.
+    fn all(self) -> Option<(u64, u64)> {
+        (self.refusal == 0).then_some((self.count as u64, self.mixed))
     }
 }
 
@@ -37,9 +30,9 @@ impl WriteAnswer {
 }
 
 unsafe extern "C" {
-    fn guobbarel_timed_read_vars(bytes: *const u8, bytes_len: usize) -> VarsAnswer;
-    fn guobbarel_timed_cut(number: u64, acked: u64) -> NumberSaid;
-    fn guobbarel_timed_expand(len: usize, value: u32, expected: u64) -> NumberSaid;
+    fn guobbarel_timed_read_vars(bytes: *const u8, bytes_len: usize) -> GatheredAnswer;
+    fn guobbarel_timed_cut(numbers: *const u64, numbers_len: usize, acked: u64) -> GatheredAnswer;
+    fn guobbarel_timed_expand(values: *const u32, values_len: usize, len: usize, expected: u64) -> GatheredAnswer;
     fn guobbarel_timed_reset_stream(
         id: u64,
         error_code: u64,
@@ -66,8 +59,8 @@ unsafe extern "C" {
     fn guobbarel_timed_new_connection_id(
         sequence: u64,
         retire_prior_to: u64,
-        id: *const u8,
-        id_len: usize,
+        id: *const [u8; 20],
+        id_len: u8,
         reset_token: *const [u8; 16],
         out: *mut u8,
         out_len: usize,
@@ -91,20 +84,19 @@ unsafe extern "C" {
     fn guobbarel_timed_dump(datagram: *const u8, datagram_len: usize, out: *mut u8, out_len: usize) -> WriteAnswer;
 }
 
-/// How many integers, and the exclusive or of all.
+/// The integers of a slice.
 pub fn read_vars(bytes: &[u8]) -> Option<(u64, u64)> {
-    let said = unsafe { guobbarel_timed_read_vars(bytes.as_ptr(), bytes.len()) };
-    (said.refusal == 0).then_some((said.count as u64, said.mixed))
+    unsafe { guobbarel_timed_read_vars(bytes.as_ptr(), bytes.len()) }.all()
 }
 
-/// The length and the value of a number that is cut by the largest acknowledged.
-pub fn cut(number: u64, acked: u64) -> Option<(usize, u64)> {
-    unsafe { guobbarel_timed_cut(number, acked) }.said()
+/// Numbers cut by the largest acknowledged, each with its length above its four bytes.
+pub fn cut(numbers: &[u64], acked: u64) -> Option<(u64, u64)> {
+    unsafe { guobbarel_timed_cut(numbers.as_ptr(), numbers.len(), acked) }.all()
 }
 
-/// The full number of a cut one.
-pub fn expand(len: usize, value: u32, expected: u64) -> Option<u64> {
-    Some(unsafe { guobbarel_timed_expand(len, value, expected) }.said()?.1)
+/// The full numbers of cut ones of `len` bytes.
+pub fn expand(values: &[u32], len: usize, expected: u64) -> Option<(u64, u64)> {
+    unsafe { guobbarel_timed_expand(values.as_ptr(), values.len(), len, expected) }.all()
 }
 
 pub fn reset_stream(id: u64, error_code: u64, final_offset: u64, out: &mut [u8]) -> Option<usize> {
@@ -123,7 +115,8 @@ pub fn crypto(offset: u64, data: &[u8], out: &mut [u8]) -> Option<usize> {
 pub fn new_connection_id(
     sequence: u64,
     retire_prior_to: u64,
-    id: &[u8],
+    id: &[u8; 20],
+    id_len: u8,
     reset_token: &[u8; 16],
     out: &mut [u8],
 ) -> Option<usize> {
@@ -131,8 +124,8 @@ pub fn new_connection_id(
         guobbarel_timed_new_connection_id(
             sequence,
             retire_prior_to,
-            id.as_ptr(),
-            id.len(),
+            id,
+            id_len,
             reset_token,
             out.as_mut_ptr(),
             out.len(),

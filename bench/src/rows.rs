@@ -303,7 +303,7 @@ fn numbers() -> Rows {
         let full = black_box(&ends).read(black_box(number)).ok()?;
         Some((number.len() as u64, full.get()))
     });
-    let mut rows = timed::numbers(next, acked, accepted + 1)?;
+    let mut rows = timed::numbers(acked, accepted + 1)?;
     rows.push(row(NUMBERS, "send, a step of the number ends".into(), [0, 0], Sides::plain([sent]))?);
     rows.push(row(NUMBERS, "read, a step of the number ends".into(), [0, 0], Sides::plain([read]))?);
     Ok(rows)

@@ -13,6 +13,7 @@ mod runtime;
 mod seen;
 
 use asker::Asker;
+use oracle::harness::record;
 use std::path::Path;
 use std::process::ExitCode;
 use std::{fs, io};
@@ -20,14 +21,14 @@ use surface::ours;
 use surface::tally::named_differences;
 
 const USAGE: &str = "\
-usage: fuzz seeds DIR    writes the fixed lists of oracle/cases as inputs, and one that is too long of each operation
+usage: fuzz seeds DIR    writes the lists of oracle/cases as inputs, and one that is too long of each operation
        fuzz show FILE..  what each input asks, and both answers
        fuzz run WORD..   libFuzzer, with its own words (fuzz run -help=1); the counts at the end, on standard output.
                          FUZZ_BLOCKS names a list of the archive's blocks, to count those that are run
 fuzz/run builds it and does all of it.
 Exit status: 0 nothing differs; 1 something does, or a file cannot be read or written; 2 bad usage. Of run: libFuzzer's.";
 
-/// The fixed lists.
+/// The documents' examples and the fixed lists.
 const CASES: &str = concat!(env!("CARGO_MANIFEST_DIR"), "/../oracle/cases");
 
 fn main() -> ExitCode {
@@ -73,7 +74,13 @@ fn show(files: &[&str]) -> io::Result<bool> {
     Ok(agrees)
 }
 
-/// Every case of the fixed lists that is one of an operation of the surface's, and one that is too long of each operation.
+/// A case with its bytes written out.
+fn plain(case: &str) -> Option<String> {
+    let packed = record::pack(case).ok()?;
+    Some(record::unpack(&packed).ok()?.0)
+}
+
+/// Every case of the lists that is one of an operation of the surface's, and one that is too long of each operation.
 fn seeds(folder: &Path) -> io::Result<bool> {
     let mut lists = fs::read_dir(CASES)?.map(|list| Ok(list?.path())).collect::<io::Result<Vec<_>>>()?;
     lists.sort();
@@ -82,7 +89,7 @@ fn seeds(folder: &Path) -> io::Result<bool> {
         let text = fs::read_to_string(list)?;
         for case in text.lines().filter_map(|line| Some(line.split_once(" = ")?.0)) {
             let op = case.split(' ').next().unwrap_or_default();
-            match form::input(case) {
+            match plain(case).and_then(|case| form::input(&case)) {
                 Some(input) => {
                     made += 1;
                     fs::write(folder.join(format!("{op}-{made}")), input)?;
@@ -94,6 +101,6 @@ fn seeds(folder: &Path) -> io::Result<bool> {
     for (i, input) in form::too_long().enumerate() {
         fs::write(folder.join(format!("long-{i}")), input)?;
     }
-    println!("{made} cases of the fixed lists as inputs; {left} that no input is");
+    println!("{made} cases of the lists as inputs; {left} that no input is");
     Ok(true)
 }

@@ -1,5 +1,5 @@
 //! Rows over `libtimed.a`: integers by themselves, packet numbers, encoders, and the dump.
-use super::{CUT, DUMP, ENCODERS, INTEGERS, NUMBERS, Row, Rows, row};
+use super::{DUMP, ENCODERS, INTEGERS, NUMBERS, Row, Rows, row};
 use crate::clock::{Sides, plain};
 use crate::ffi;
 use crate::inputs::{self, CID, Widths};
@@ -20,21 +20,25 @@ pub fn integers() -> Rows {
         .collect()
 }
 
-/// A number cut, and a cut one read back.
-pub fn numbers(number: u64, acked: u64, expected: u64) -> Rows {
-    let cut = plain(move || Some((ffi::cut(black_box(number), black_box(acked))?.0 as u64, number)));
-    let new = plain(move || Some(rust::cut(black_box(number), black_box(acked))));
-    let read = plain(move || {
-        let (len, value) = black_box(CUT);
-        Some((len as u64, ffi::expand(len, value, black_box(expected))?))
-    });
-    let theirs = rust::Cut::new(CUT.0 as u64, CUT.1);
-    let expand = plain(move || Some(black_box(&theirs).expand(black_box(expected))));
+/// The numbers that a sender counts on from the acknowledged one, cut; and as many of two bytes around the expected one, read back.
+pub fn numbers(acked: u64, expected: u64) -> Rows {
+    let numbers: Vec<u64> = (1..=NUMBERED).map(|n| acked + n).collect();
+    let given = numbers.clone();
+    let cut = plain(move || ffi::cut(black_box(&numbers), black_box(acked)));
+    let new = plain(move || Some(rust::cut(black_box(&given), black_box(acked))));
+    let values: Vec<u32> = (0..NUMBERED).map(|n| (expected - NUMBERED / 2 + n) as u16 as u32).collect();
+    let cuts: Vec<rust::Cut> = values.iter().map(|&value| rust::Cut::new(2, value)).collect();
+    let read = plain(move || ffi::expand(black_box(&values), black_box(2), black_box(expected)));
+    let expand = plain(move || Some(rust::Cut::expand(black_box(&cuts), black_box(expected))));
+    let sizes = [0, NUMBERED as usize];
     Ok(vec![
-        row(NUMBERS, "cut by the largest acknowledged".into(), [0, 0], Sides::plain([cut, new]))?,
-        row(NUMBERS, "read back by the expected one".into(), [0, 0], Sides::plain([read, expand]))?,
+        row(NUMBERS, "cut by the largest acknowledged".into(), sizes, Sides::plain([cut, new]))?,
+        row(NUMBERS, "read back by the expected one".into(), sizes, Sides::plain([read, expand]))?,
     ])
 }
+
+/// An odd number, so that lengths, which are alike, do not cancel out in the exclusive or.
+const NUMBERED: u64 = 1001;
 
 /// Bytes for frames to carry, the same for both sides. They stand half a page from where a frame is written: a load and a store
 /// whose addresses agree in their low twelve bits wait for each other.
@@ -95,6 +99,8 @@ fn acked(count: usize, widths: Widths) -> Result<Row, String> {
 pub fn encoders() -> Rows {
     let code = TransportErrorCode::PROTOCOL_VIOLATION;
     let (data, reason, token) = (carried(1000), carried(40), [0x77; 16]);
+    let mut id = [0; 20];
+    id[..CID.len()].copy_from_slice(&CID);
     [
         encoded(
             "RESET_STREAM: three integers",
@@ -120,7 +126,9 @@ pub fn encoders() -> Rows {
         encoded(
             "NEW_CONNECTION_ID, an id of 8 bytes",
             0,
-            move |out| ffi::new_connection_id(black_box(3), black_box(1), black_box(&CID), black_box(&token), out),
+            move |out| {
+                ffi::new_connection_id(black_box(3), black_box(1), black_box(&id), black_box(8), black_box(&token), out)
+            },
             rust::new_connection_id(3, 1, &CID, token),
         ),
         encoded(

@@ -1,26 +1,23 @@
 -- What each encoder's code hands on, integers and then bytes, makes the bytes of its row. Assumes nothing.
-use mathlib.Core.Path.{_≡_, refl, ap, _∙_}
+use mathlib.Core.Path.{_≡_, refl}
 use mathlib.Core.List.{List, [], _∷_, _++_, append-assoc, append-nil}
 use mathlib.Core.Bool.{Bool, true, false}
 use Prim.Native.Nat.{ℕ, _+_, _-_, _≤_, _<_, _^_}
 use native.Mathlib.Omega.{arith}
 use lib.ListN.{length, take, length-append}
-use lib.Seq.{take-at}
 use lib.Dec.{ltb, eqb}
 use borrow.Author.Tests.{ltb-false, eqb-false, lt-ltb, le-ltb, ne-eqb}
 use Rattle.coding.specs.Words.{if_then_else_, no, ok}
-use Rattle.coding.specs.Bytes.{splice}
 use Rattle.coding.specs.Varint.{varBytes}
 use Rattle.coding.specs.Writing.{Put}
-use Rattle.coding.proofs.Laws.{length-splice}
-use Rattle.coding.proofs.Writes.{put-so}
-use Rattle.shared.specs.Cid.{cidBytes, longBytes}
+use Rattle.coding.proofs.Writes.{So, put-so, so-put}
+use Rattle.shared.specs.Cid.{cidBytes, longBytes, longPut}
 use Rattle.shared.specs.declared.cid.ConnectionId.{ConnectionId}
-use Rattle.shared.proofs.Laws.{length-long}
+use Rattle.shared.proofs.Laws.{length-long, long-some}
 use Rattle.frame.specs.Table.{table}
 use Rattle.frame_write.specs.Writing.{Word, number, raw, nothing, numberIn, fieldBytes, rowBytes, frameBytes}
-use Rattle.frame_write.specs.Limits.{below62, limited, numbersIn, frameOut, varsBytes, varsOut}
-use Rattle.frame_write.proofs.Laws.{below-at, below-not, limited-past, limited-seen, vals-same}
+use Rattle.frame_write.specs.Limits.{below62, limited, numbersIn, frameOut, varsBytes, varsOut, stored}
+use Rattle.frame_write.proofs.Laws.{below-at, below-not, vars-bound, limited-past, limited-seen, Held, out-ok, vals-same}
 use Rattle.frame_out.specs.Frames.{ecnOut, streamType, streamWords, metaBytes, metaOut, cryptoOut, newTokenOut, resetStreamOut, stopSendingOut, newCidOut, datagramOut, ackFrequencyOut}
 use Rattle.frame_out.specs.Closes.{connection}
 
@@ -166,22 +163,24 @@ cid-seen sequence retire id token bs = go (ltb sequence retire) (eqb (id .len) 0
     go false false true a b c h = let z : _≡_ {A = ℕ} 0 1 = cc in absurd (omega arith)
     go false false false a b c h = (ltb-false sequence retire a, (eqb-false (id .len) 0 b, ltb-false 20 (id .len) c))
 
--- the two, put into 37 bytes of their own: they lie inside, and what stands there is them
-pub record Tail (bs new : List ℕ) (r : ℕ) : Type 0 where
-  pub inside : r ≤ length new
-  pub same : take r new ≡ bs
+-- integers, the connection id behind its length and the token: n is what the integers take
+module _ (xs : List ℕ) (id : ConnectionId) (token : List ℕ) (n : ℕ)
+    (few : length xs ≤ 3) (array : length (id .bytes) ≡ 20) (short : id .len ≤ 20) (sixteen : length token ≡ 16) (h : Held xs [] n) where
+  pub id-held : Held xs (longBytes id ++ token) (n + (17 + id .len))
+  id-held =
+      let l = length-append (longBytes id) token in
+      let m = length-long id (omega arith) in
+      let b = vars-bound xs (h .small) in
+      record { small = h .small; short = omega (arith, h .long); long = omega (arith, h .long) }
 
-module _ (id : ConnectionId) (token : List ℕ) (array : length (id .bytes) ≡ 20) (sixteen : length token ≡ 16) (short : id .len ≤ 20) where
-  pub tail-fits : length (longBytes id ++ token) ≤ 37
-  tail-fits = omega (arith, length-append (longBytes id) token, length-long id (omega arith))
-
-  pub tail-put : (old new : List ℕ) (r : ℕ) → length old ≡ 37 → Put (longBytes id ++ token) old 0 r new → Tail (longBytes id ++ token) new r
-  unfolding splice
-  tail-put old new r e p =
-      let s = put-so (longBytes id ++ token) old 0 (omega (arith, tail-fits)) p in
-      let l : length new ≡ length old = ap length (s .bytes) ∙ length-splice old (longBytes id ++ token) 0 (omega (arith, tail-fits)) in
-      let m : r ≡ length (longBytes id ++ token) = omega (arith, s .place) in
-      record {
-        inside = omega (arith, tail-fits);
-        same = rw (s .bytes, m) (take-at (longBytes id ++ token) _ (length (longBytes id ++ token)) refl);
-      }
+  -- the three puts, one behind the other
+  pub id-puts : {old a b new : List ℕ} {s t r : ℕ} → n + (17 + id .len) ≤ length old
+      → Put (stored (varsOut xs [])) old 0 s a → Put (longPut id) a s t b → Put token b t r new → So old 0 (varsBytes xs ++ (longBytes id ++ token)) r new
+  unfolding stored
+  id-puts room p q r =
+      let l = length-long id (omega arith) in
+      let k = h .long in
+      let u = put-so _ _ _ (omega arith) (rw (out-ok xs [] n h, append-nil) at p) in
+      let v = so-put u (omega arith) (rw (long-some id short) at q) in
+      let m = length-append (varsBytes xs) (longBytes id) in
+      rw append-assoc at (so-put v (omega arith) r)

@@ -35,8 +35,9 @@ ghost use lib.ListN.{length};
 ghost use lib.Dec.{eqb};
 ghost use Rattle.coding.specs.Words.{if_then_else_};
 ghost use Rattle.coding.specs.Said.{sizedOf, wroteOf};
-ghost use Rattle.coding.specs.Writing.{lengthOf, Written, Put};
+ghost use Rattle.coding.specs.Writing.{lengthOf, Written};
 ghost use Rattle.shared.specs.Cid.{longBytes};
+ghost use Rattle.frame_write.specs.Limits.{varsOut};
 ghost use Rattle.frame_out.specs.Frames.{ecnOut, streamType, metaOut, cryptoOut, newTokenOut, resetStreamOut, stopSendingOut, newCidOut, datagramOut, ackFrequencyOut};
 
 // The smallest number of bytes that a frame is guaranteed to fit within, besides its data, is its SIZE_BOUND.
@@ -163,13 +164,21 @@ pub fn stop_sending(frame: StopSending, out: &mut [u8]) -> Wrote
 
 pub const NEW_CONNECTION_ID_SIZE_BOUND: usize = 1 + 8 + 8 + 1 + MAX_CID_SIZE + 16;
 
-// Puts a connection id behind its length, and a reset token.
-fn put_tail(id: ConnectionId, reset_token: &[u8], tail: &mut [u8]) -> usize
-    requires { ⌜ (id .len ≤ 20) × (length (longBytes id ++ now «reset_token») ≤ length (now tail)) ⌝ }
-    ensures { λ r. ⌜ Put (longBytes id ++ now («reset_token» .entry)) (now (tail .entry)) 0 r (now (tail .exit)) ⌝ }
+// Writes integers, a connection id behind its length, and its reset token, from byte 0 of out on.
+fn frame_with_id(vals: &[u64], id: ConnectionId, reset_token: &[u8], out: &mut [u8]) -> Wrote
+    requires { ⌜ (id .len ≤ 20) × ((length (now vals) ≤ 3) × (length (now «reset_token») ≡ 16)) ⌝ }
+    ensures { λ r. ⌜ Written (varsOut (now (vals .entry)) (longBytes id ++ now («reset_token» .entry))) (now (out .entry)) (wroteOf r) (now (out .exit)) ⌝ }
 {
-    let start = id.put_long(tail, 0);
-    coding::put_slice(tail, start, reset_token)
+    let Sized::Bytes(n) = frame_write::vars_len(vals) else {
+        return Wrote::Refused(Refusal::Argument);
+    };
+    // the length byte, the id, and the token's 16
+    if out.len() < n + (17 + id.len as usize) {
+        return Wrote::Refused(Refusal::Room);
+    }
+    let start = frame_write::put_vars(out, 0, vals);
+    let next = id.put_long(out, start);
+    Wrote::Len(coding::put_slice(out, next, reset_token))
 }
 
 pub fn new_connection_id(
@@ -190,10 +199,8 @@ pub fn new_connection_id(
     if 20 < id.len {
         return Wrote::Refused(Refusal::Argument);
     }
-    let mut tail = [0u8; 37];
-    let end = put_tail(id, reset_token, &mut tail);
     let vals = [FrameType::NEW_CONNECTION_ID.0, sequence, retire_prior_to];
-    frame_write::frame_of(&vals, &tail[..end], out)
+    frame_with_id(&vals, id, reset_token, out)
 }
 
 pub const DATAGRAM_SIZE_BOUND: usize = 1 + 8;

@@ -17,22 +17,22 @@ use Rattle.packet_out.specs.Encoding.{Plain, numberIn, numberLenIn, numberKeeps
 use Rattle.packet_out.specs.Length.{lengthField, lengthSet}
 use Rattle.packet_out.proofs.Laws.{kept, length-small}
 use Rattle.packet_out.proofs.Sent.{sets}
-use Rattle.packet_out.specs.Before.{numberSize, lengthFits, fits, headerWith}
+use Rattle.packet_out.specs.Before.{roomy, numberSize, lengthFits, fits, headerWith}
 
 -- what fits
 record Fit (p : Plain) (dst src : ConnectionId) (token : List ℕ) (n : ℕ) : Type 0 where
   rules : keepRules (numberIn p) dst src ≡ true
-  len : lengthFits (shapeBy bitsOf p .hasLength) (numberSize p + n) ≡ true
   all : length (headerBytes p dst src token) + n ≤ 65527
+  len : lengthFits (shapeBy bitsOf p .hasLength) (numberSize p + n) ≡ true
 
 module _ (p : Plain) (dst src : ConnectionId) (token : List ℕ) (n : ℕ) where
   fit : fits p dst src token n ≡ true → Fit p dst src token n
-  unfolding fits
-  fit = go (keepRules (numberIn p) dst src) (lengthFits (shapeBy bitsOf p .hasLength) (numberSize p + n)) (leb (length (headerBytes p dst src token) + n) 65527) refl refl refl
+  unfolding fits roomy
+  fit = go (keepRules (numberIn p) dst src) (leb (length (headerBytes p dst src token) + n) 65527) (lengthFits (shapeBy bitsOf p .hasLength) (numberSize p + n)) refl refl refl
     where
-      go : (a b d : Bool) → keepRules (numberIn p) dst src ≡ a → lengthFits (shapeBy bitsOf p .hasLength) (numberSize p + n) ≡ b
-          → leb (length (headerBytes p dst src token) + n) 65527 ≡ d → (a && b && d) ≡ true → Fit p dst src token n
-      go true true true x y z h = record { rules = x; len = y; all = leb-true _ _ z }
+      go : (a b d : Bool) → keepRules (numberIn p) dst src ≡ a → leb (length (headerBytes p dst src token) + n) 65527 ≡ b
+          → lengthFits (shapeBy bitsOf p .hasLength) (numberSize p + n) ≡ d → ((a && b) && d) ≡ true → Fit p dst src token n
+      go true true true x y z h = record { rules = x; all = leb-true _ _ y; len = z }
       go true true false x y z h = let q : _≡_ {A = ℕ} 0 1 = cc in absurd (omega arith)
       go true false d x y z h = let q : _≡_ {A = ℕ} 0 1 = cc in absurd (omega arith)
       go false b d x y z h = let q : _≡_ {A = ℕ} 0 1 = cc in absurd (omega arith)

@@ -9,6 +9,7 @@ mod records; // records.rt: what goes over the surface by value
 pub use frame_answer::FrameAnswer;
 pub use frame_answer::FrameValue;
 pub use frame_answer::Span;
+use protect::Masked;
 pub use records::HeaderAnswer;
 pub use records::HeaderGiven;
 pub use records::NumberAnswer;
@@ -163,11 +164,14 @@ pub extern "C" fn guobbarel_mask(
         return 14;
     }
     let number = packets::number_len(number_len);
-    packets::mask_record(protect::mask(
+    let Masked::Refused(why) = protect::mask(
         header_len,
         number,
         has_length == 1,
         packet,
         packets::five(mask),
-    ))
+    ) else {
+        return 0;
+    };
+    why.number()
 }

@@ -11,7 +11,6 @@ use packet::ProtectedHeader;
 use packet::Stepped;
 use protect::Finished;
 use protect::Kind;
-use protect::Masked;
 use protect::NumberLen;
 use protect::SamplePlace;
 use shared::CutNumber;
@@ -19,9 +18,9 @@ ghost use mathlib.Core.Path.{_≡_};
 ghost use lib.ListN.{length};
 ghost use Rattle.frame.specs.Table.{flag};
 ghost use Rattle.packet.specs.Said.{headerOf, outcomeOf, stepOf};
-ghost use Rattle.protect.specs.Said.{longOf, numberedOf, numberLenOf, sampleOf, finishedOf, maskedOf};
+ghost use Rattle.protect.specs.Said.{longOf, numberedOf, numberLenOf, sampleOf, finishedOf};
 ghost use Rattle.gateway.specs.Arguments.{longKind, numberedKind, numberGiven};
-ghost use Rattle.gateway.specs.Packets.{headerHas, headerRefused, numbersOf, dstAt, srcAt, headerRecord, noPacket, stepRecord, noSample, sampleRecord, headerSpan, payloadSpan, notOpened, openedWith, unmaskRecord, maskRecord};
+ghost use Rattle.gateway.specs.Packets.{headerHas, headerRefused, numbersOf, dstAt, srcAt, headerRecord, noPacket, stepRecord, noSample, sampleRecord, headerSpan, payloadSpan, notOpened, openedWith, unmaskRecord};
 
 // What a header alone has.
 pub(crate) struct HeaderNumbers {
@@ -319,15 +318,5 @@ pub(crate) fn unmask_record(f: Finished, number_offset: usize, len: usize) -> Un
         } => opened(number, reserved_clear, key_phase, number_offset, len),
         Finished::Nothing => not_opened(0),
         Finished::Refused(why) => not_opened(why.number()),
-    }
-}
-
-// The refusal of the mask step, 0 where it is done.
-pub(crate) fn mask_record(m: Masked) -> u8
-    ensures { λ r. ⌜ r ≡ maskRecord (maskedOf m) ⌝ }
-{
-    match m {
-        Masked::Done => 0,
-        Masked::Refused(why) => why.number(),
     }
 }

@@ -24,18 +24,18 @@ use Rattle.packet_out.proofs.Sent.{without}
 
 -- ---- with its Length
 
-drop-true : (a b : Bool) → (a && b) ≡ (a && true && b)
-drop-true true b = refl
-drop-true false b = refl
+and-true : (a : Bool) → (a && true) ≡ a
+and-true true = refl
+and-true false = refl
 
-no-mid : (a b : Bool) → (a && false && b) ≡ false
-no-mid true b = refl
-no-mid false b = refl
+and-false : (a : Bool) → (a && false) ≡ false
+and-false true = refl
+and-false false = refl
 
 module _ (p : Plain) (dst src : ConnectionId) (token : List ℕ) (n : ℕ) where
   pub with-not : lengthFits (shapeBy bitsOf p .hasLength) (numberSize p + n) ≡ false → headerWith p dst src token n ≡ no 14
   unfolding headerWith fits if_then_else_
-  with-not h = rw (h, no-mid (keepRules (numberIn p) dst src) (leb (length (headerBytes p dst src token) + n) 65527))
+  with-not h = rw (h, and-false (roomy p dst src token n))
 
   same-header : (b : Bool) (m : ℕ) → shapeBy bitsOf p .hasLength ≡ b
       → headerBy bitsOf (bytesBE 2 (fieldFor b m)) p dst src token ≡ headerBy bitsOf (lengthField m) p dst src token
@@ -45,9 +45,8 @@ module _ (p : Plain) (dst src : ConnectionId) (token : List ℕ) (n : ℕ) where
 
   pub with-field : lengthFits (shapeBy bitsOf p .hasLength) (numberSize p + n) ≡ true
       → headerBefore (bytesBE 2 (fieldFor (shapeBy bitsOf p .hasLength) (numberSize p + n))) p dst src token n ≡ headerWith p dst src token n
-  unfolding headerBefore roomy headerWith fits
-  with-field h =
-      rw (h, same-header (shapeBy bitsOf p .hasLength) (numberSize p + n) refl, drop-true (keepRules (numberIn p) dst src) (leb (length (headerBytes p dst src token) + n) 65527))
+  unfolding headerBefore headerWith fits
+  with-field h = rw (h, same-header (shapeBy bitsOf p .hasLength) (numberSize p + n) refl, and-true (roomy p dst src token n))
 
 -- ---- encode's, of a connection id by value
 

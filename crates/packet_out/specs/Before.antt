@@ -31,10 +31,9 @@ lengthFits has n = if has then ltb n (2 ^ 14) else true
 unfoldable pub fieldFor : Bool → ℕ → ℕ
 fieldFor has n = if has then 2 ^ 14 + n else 0
 
--- the number keeps its rule, the Length fits, and the packet, header and payload, has at most 65,527 bytes
+-- there is room, and the Length of number and payload fits
 unfoldable pub fits : Plain → ConnectionId → ConnectionId → List ℕ → ℕ → Bool
-fits p dst src token n =
-    keepRules (numberIn p) dst src && lengthFits (shapeBy bitsOf p .hasLength) (numberSize p + n) && leb (length (headerBytes p dst src token) + n) 65527
+fits p dst src token n = roomy p dst src token n && lengthFits (shapeBy bitsOf p .hasLength) (numberSize p + n)
 
 -- the header, its Length that of number and payload; where something does not fit, 14
 unfoldable pub headerWith : Plain → ConnectionId → ConnectionId → List ℕ → ℕ → Answer (List ℕ)

@@ -1,18 +1,19 @@
 // An answer's text, put at a place of a lent buffer; each function answers the next place. What does not fit is left out.
 use crate::record::Turn;
+use coding::Place;
 use coding::Refusal;
 use coding::Wrote;
+use coding::part;
 use coding::put_slice;
 use text::put_decimal;
 use text::put_hex_or;
+ghost use mathlib.Core.Path.{_≡_};
 ghost use mathlib.Core.List.{[], _∷_};
-ghost use Rattle.coding.specs.Refusals.{numberOf};
-ghost use Rattle.coding.specs.Said.{wroteOf};
-ghost use Rattle.coding.specs.Writing.{Put};
+ghost use Rattle.coding.specs.Places.{partOf};
 ghost use Rattle.text.specs.Decimal.{decimal};
 ghost use Rattle.text.specs.Puts.{PutAll};
-ghost use Rattle.records.specs.Lines.{hexWord, andNum, andHex, andNums, okLine, okTwoLine, noLine, answerLine, wroteLine, badLine, endWord, endLine};
-ghost use Rattle.records.specs.Said.{turnOf};
+ghost use Rattle.records.specs.Lines.{hexWord, andNum, andHex, andNums, answerWords, endWords, endWord, endLine};
+ghost use Rattle.records.specs.Said.{wordOf, numbersOf, answerLine, writtenOf, isBad, wroteLine, turnOf};
 
 pub fn num(out: &mut [u8], at: usize, n: u64) -> usize
     ensures { λ r. ⌜ PutAll (decimal n ∷ []) (now (out .entry)) at r (now (out .exit)) ⌝ }
@@ -54,58 +55,107 @@ pub fn and_nums(out: &mut [u8], at: usize, ns: &[u64]) -> usize
     p
 }
 
-pub fn ok(out: &mut [u8], at: usize, n: u64) -> usize
-    ensures { λ r. ⌜ PutAll (okLine n) (now (out .entry)) at r (now (out .exit)) ⌝ }
-{
-    let p = put_slice(out, at, b"ok");
-    and_num(out, p, n)
+// What an operation answers: that there is no such operation, none, a refusal, or ok with up to three numbers; or a number
+// alone.
+pub enum Answer {
+    Bad,
+    Nothing,
+    No(Refusal),
+    Done,
+    One(u64),
+    Two(u64, u64),
+    Three(u64, u64, u64),
+    Number(u64),
 }
 
-pub fn ok_two(out: &mut [u8], at: usize, a: u64, b: u64) -> usize
-    ensures { λ r. ⌜ PutAll (okTwoLine a b) (now (out .entry)) at r (now (out .exit)) ⌝ }
+// The place of an answer's word among all of them.
+fn word(a: Answer) -> Place
+    ensures { λ r. ⌜ partOf answerWords r ≡ wordOf a ⌝ }
 {
-    let p = ok(out, at, a);
-    and_num(out, p, b)
-}
-
-// A refusal, with document 01's number.
-pub fn no(out: &mut [u8], at: usize, why: Refusal) -> usize
-    ensures { λ r. ⌜ PutAll (noLine (numberOf why)) (now (out .entry)) at r (now (out .exit)) ⌝ }
-{
-    let p = put_slice(out, at, b"no");
-    and_num(out, p, why.number() as u64)
-}
-
-fn answer(out: &mut [u8], at: usize, said: Wrote) -> usize
-    ensures { λ r. ⌜ PutAll (answerLine (wroteOf said)) (now (out .entry)) at r (now (out .exit)) ⌝ }
-{
-    match said {
-        Wrote::Len(n) => ok(out, at, n as u64),
-        Wrote::Refused(why) => no(out, at, why),
+    match a {
+        Answer::Bad => Place { start: 8, len: 10 },
+        Answer::Nothing => Place { start: 3, len: 4 },
+        Answer::No(_) => Place { start: 3, len: 2 },
+        Answer::Done => Place { start: 0, len: 2 },
+        Answer::One(_) => Place { start: 0, len: 2 },
+        Answer::Two(_, _) => Place { start: 0, len: 2 },
+        Answer::Three(_, _, _) => Place { start: 0, len: 2 },
+        Answer::Number(_) => Place { start: 0, len: 0 },
     }
 }
 
-// What a writer answers, and the lent buffer after it.
-pub fn wrote(out: &mut [u8], at: usize, said: Wrote, buf: &[u8]) -> usize
-    ensures { λ r. ⌜ PutAll (wroteLine (wroteOf said) (now (buf .entry))) (now (out .entry)) at r (now (out .exit)) ⌝ }
+// A refusal has document 01's number.
+fn and_numbers(out: &mut [u8], at: usize, a: Answer) -> usize
+    ensures { λ r. ⌜ PutAll (numbersOf a) (now (out .entry)) at r (now (out .exit)) ⌝ }
 {
-    let p = answer(out, at, said);
+    match a {
+        Answer::Bad => at,
+        Answer::Nothing => at,
+        Answer::No(why) => and_num(out, at, why.number() as u64),
+        Answer::Done => at,
+        Answer::One(x) => and_num(out, at, x),
+        Answer::Two(x, y) => {
+            let ns = [x, y];
+            and_nums(out, at, &ns)
+        }
+        Answer::Three(x, y, z) => {
+            let ns = [x, y, z];
+            and_nums(out, at, &ns)
+        }
+        Answer::Number(x) => num(out, at, x),
+    }
+}
+
+pub fn say(out: &mut [u8], at: usize, a: Answer) -> usize
+    ensures { λ r. ⌜ PutAll (answerLine a) (now (out .entry)) at r (now (out .exit)) ⌝ }
+{
+    let p = put_slice(out, at, part(b"ok none BAD RECORD", word(a)));
+    and_numbers(out, p, a)
+}
+
+// What a writer answers.
+pub fn written(said: Wrote) -> Answer
+    ensures { λ r. ⌜ r ≡ writtenOf said ⌝ }
+{
+    match said {
+        Wrote::Len(n) => Answer::One(n as u64),
+        Wrote::Refused(why) => Answer::No(why),
+    }
+}
+
+fn is_bad(a: Answer) -> bool
+    ensures { λ r. ⌜ r ≡ isBad a ⌝ }
+{
+    match a {
+        Answer::Bad => true,
+        Answer::Nothing => false,
+        Answer::No(_) => false,
+        Answer::Done => false,
+        Answer::One(_) => false,
+        Answer::Two(_, _) => false,
+        Answer::Three(_, _, _) => false,
+        Answer::Number(_) => false,
+    }
+}
+
+// An answer, and the lent buffer after it, where there is such an operation.
+pub fn wrote(out: &mut [u8], at: usize, a: Answer, buf: &[u8]) -> usize
+    ensures { λ r. ⌜ PutAll (wroteLine a (now (buf .entry))) (now (out .entry)) at r (now (out .exit)) ⌝ }
+{
+    let p = say(out, at, a);
+    if is_bad(a) {
+        return p;
+    }
     and_hex(out, p, buf)
 }
 
-pub fn bad(out: &mut [u8], at: usize) -> usize
-    ensures { λ r. ⌜ PutAll badLine (now (out .entry)) at r (now (out .exit)) ⌝ }
-{
-    put_slice(out, at, b"BAD RECORD")
-}
-
-fn ending(out: &mut [u8], at: usize, t: Turn) -> usize
-    ensures { λ r. ⌜ Put (endWord (turnOf t)) (now (out .entry)) at r (now (out .exit)) ⌝ }
+fn ending(t: Turn) -> Place
+    ensures { λ r. ⌜ partOf endWords r ≡ endWord (turnOf t) ⌝ }
 {
     match t {
-        Turn::Record(_, _, _) => put_slice(out, at, b"end "),
-        Turn::End => put_slice(out, at, b"end "),
-        Turn::Cut => put_slice(out, at, b"BAD RECORD\nstopped "),
+        Turn::Record(_, _) => Place { start: 0, len: 4 },
+        Turn::End => Place { start: 0, len: 4 },
+        Turn::Cut => Place { start: 4, len: 19 },
     }
 }
 
@@ -113,6 +163,7 @@ fn ending(out: &mut [u8], at: usize, t: Turn) -> usize
 pub fn end(out: &mut [u8], at: usize, t: Turn, count: u64) -> usize
     ensures { λ r. ⌜ PutAll (endLine (turnOf t) count) (now (out .entry)) at r (now (out .exit)) ⌝ }
 {
-    let p = ending(out, at, t);
-    num(out, p, count)
+    let p = put_slice(out, at, part(b"end BAD RECORD\nstopped ", ending(t)));
+    let p = num(out, p, count);
+    put_slice(out, p, b"\n")
 }

@@ -10,20 +10,40 @@ use coding::put_slice;
 ghost use mathlib.Core.Path.{_≡_};
 ghost use Rattle.coding.specs.Places.{Part, startOf, partOf};
 ghost use Rattle.coding.specs.Said.{placeOf};
-ghost use Rattle.records.specs.Records.{sizedAt, recordAt, numberIn, partIn, leftIn, Laid, Moved};
+ghost use Rattle.records.specs.Records.{headIn, sizedAt, numberIn, numbersIn, partIn, Laid};
 ghost use Rattle.records.specs.Said.{turnOf};
 
-// The input that was read and not yet answered: buf's bytes from `from` up to `have`.
-pub struct Feed {
-    pub from: usize,
-    pub have: usize,
-}
-
-// A record's operation, its fields' place and the input after it; or that there is none, or a part of one.
+// A record's operation and how many bytes its fields are; or that there is none, or a part of one.
 pub enum Turn {
-    Record(u8, Place, Feed),
+    Record(u8, usize),
     End,
     Cut,
+}
+
+// The six numbers of a record.
+pub struct Numbers {
+    pub n0: u64,
+    pub n1: u64,
+    pub n2: u64,
+    pub n3: u64,
+    pub n4: u64,
+    pub n5: u64,
+}
+
+// What a record begins with, its first 4 bytes.
+pub fn head(b: &[u8]) -> Turn
+    ensures { λ r. ⌜ turnOf r ≡ headIn (now (b .entry)) ⌝ }
+{
+    let U8Read::Num(op, p) = coding::get_u8(b, 0) else {
+        return Turn::End;
+    };
+    let U8Read::Num(high, p) = coding::get_u8(b, p) else {
+        return Turn::Cut;
+    };
+    let U16Read::Num(low, _) = coding::get_u16(b, p) else {
+        return Turn::Cut;
+    };
+    Turn::Record(op, (high as usize) * 65536 + (low as usize))
 }
 
 // Bytes after their length.
@@ -39,62 +59,27 @@ fn sized(rec: &[u8], at: usize) -> PlaceRead
     coding::take(rec, p, (high as u64) * 65536 + (low as u64))
 }
 
-// The record at the start of the input.
-pub fn find(buf: &[u8], f: Feed) -> Turn
-    ensures { λ r. ⌜ turnOf r ≡ recordAt (now (buf .entry)) f ⌝ }
-{
-    let from = f.from;
-    let have = f.have;
-    let seen = part(
-        buf,
-        Place {
-            start: 0,
-            len: have,
-        },
-    );
-    let U8Read::Num(op, at) = coding::get_u8(seen, from) else {
-        return Turn::End;
-    };
-    let PlaceRead::At(rest, next) = sized(seen, at) else {
-        return Turn::Cut;
-    };
-    Turn::Record(op, rest, Feed { from: next, have })
-}
-
-// The input that is left.
-fn left(buf: &[u8], f: Feed) -> &[u8]
-    ensures { λ r. ⌜ now r ≡ leftIn (now (buf .entry)) f ⌝ }
-{
-    let from = f.from;
-    let have = f.have;
-    if have < from {
-        return &buf[..0];
-    }
-    part(
-        buf,
-        Place {
-            start: from,
-            len: have - from,
-        },
-    )
-}
-
-// Moves what is left to the front of buf, by way of work, and answers how much it is.
-pub fn to_front(buf: &mut [u8], work: &mut [u8], f: Feed) -> usize
-    ensures { λ r. ⌜ Moved (leftIn (now (buf .entry)) f) (now (work .entry)) (now (buf .entry)) r (now (work .exit)) (now (buf .exit)) ⌝ }
-{
-    let n = put_slice(work, 0, left(buf, f));
-    put_slice(buf, 0, part(work, Place { start: 0, len: n }))
-}
-
 // Number i of a record.
-pub fn number(rec: &[u8], i: u8) -> u64
+fn number(rec: &[u8], i: u8) -> u64
     ensures { λ r. ⌜ r ≡ numberIn (now (rec .entry)) i ⌝ }
 {
     let U64Read::Num(x, _) = coding::get_u64(rec, 8 * (i as usize)) else {
         return 0;
     };
     x
+}
+
+pub fn numbers_of(rec: &[u8]) -> Numbers
+    ensures { λ r. ⌜ r ≡ numbersIn (now (rec .entry)) ⌝ }
+{
+    Numbers {
+        n0: number(rec, 0),
+        n1: number(rec, 1),
+        n2: number(rec, 2),
+        n3: number(rec, 3),
+        n4: number(rec, 4),
+        n5: number(rec, 5),
+    }
 }
 
 // The place of part j of a record.

@@ -1,9 +1,7 @@
 // The operations of `shared`: connection ids, ECN, stream ids, frame types.
-use coding::Place;
-use coding::part;
-use coding::put_slice;
 use records::line;
-use records::record::lay;
+use records::line::Answer;
+use records::record::Numbers;
 use shared::CidAnswer;
 use shared::CidRead;
 use shared::ConnectionId;
@@ -15,90 +13,71 @@ use shared::Side;
 use shared::StreamId;
 use shared::StreamMade;
 
-// A CID's length and all its 20 bytes.
-fn cid(out: &mut [u8], p: usize, id: ConnectionId) -> usize {
-    let bytes = id.bytes;
-    let q = line::ok(out, p, id.len as u64);
-    line::and_hex(out, q, &bytes)
-}
-
-pub(crate) fn cidnew(b: &[u8], out: &mut [u8], p: usize) -> usize {
-    let read = ConnectionId::new(b);
-    let said = read.answer;
-    let id = read.cid;
-    match said {
-        CidAnswer::At(_) => cid(out, p, id),
-        CidAnswer::Refused(why) => line::no(out, p, why),
+// cidnew, cidbuf and ciddec.
+fn cid_read(op: u8, ns: Numbers, b: &[u8]) -> CidRead {
+    match op {
+        11 => ConnectionId::new(b),
+        12 => ConnectionId::from_buf(b, ns.n0 as usize, ns.n1 as usize),
+        _ => ConnectionId::decode_long(b, ns.n0 as usize),
     }
 }
 
-// A CID and the place past it, or the refusal.
-fn cid_read(read: CidRead, out: &mut [u8], p: usize) -> usize {
+// A CID's length, all its 20 bytes and, but for cidnew, the place past it; or the refusal.
+pub(crate) fn cids(op: u8, ns: Numbers, b: &[u8], out: &mut [u8], p: usize) -> usize {
+    let read = cid_read(op, ns, b);
     let said = read.answer;
     let id = read.cid;
+    let bytes = id.bytes;
     match said {
+        CidAnswer::Refused(why) => line::say(out, p, Answer::No(why)),
         CidAnswer::At(next) => {
-            let q = cid(out, p, id);
+            let q = line::say(out, p, Answer::One(id.len as u64));
+            let q = line::and_hex(out, q, &bytes);
+            if op == 11 {
+                return q;
+            }
             line::and_num(out, q, next as u64)
         }
-        CidAnswer::Refused(why) => line::no(out, p, why),
     }
-}
-
-pub(crate) fn cidbuf(at: u64, n: u64, b: &[u8], out: &mut [u8], p: usize) -> usize {
-    cid_read(ConnectionId::from_buf(b, at as usize, n as usize), out, p)
-}
-
-pub(crate) fn ciddec(at: u64, b: &[u8], out: &mut [u8], p: usize) -> usize {
-    cid_read(ConnectionId::decode_long(b, at as usize), out, p)
 }
 
 // The 20 bytes come by way of a CID of length 20.
-pub(crate) fn cidenc(
-    len: u64,
-    bytes: &[u8],
-    b: &[u8],
-    work: &mut [u8],
-    out: &mut [u8],
-    p: usize,
-) -> usize {
-    let n = lay(work, b);
+pub(crate) fn cidenc(len: u64, bytes: &[u8], buf: &mut [u8]) -> Answer {
     if bytes.len() != 20 {
-        return line::bad(out, p);
+        return Answer::Bad;
     }
     if 255 < len {
-        return line::bad(out, p);
+        return Answer::Bad;
     }
     let whole = ConnectionId::new(bytes).cid.bytes;
     let id = ConnectionId {
         len: len as u8,
         bytes: whole,
     };
-    let said = id.encode_long(&mut work[..n]);
-    line::wrote(out, p, said, part(work, Place { start: 0, len: n }))
+    line::written(id.encode_long(buf))
 }
 
-pub(crate) fn ecnbits(x: u64, out: &mut [u8], p: usize) -> usize {
+pub(crate) fn ecnbits(x: u64) -> Answer {
     if 255 < x {
-        return line::bad(out, p);
+        return Answer::Bad;
     }
     let EcnRead::Ecn(c) = EcnCodepoint::from_bits(x as u8) else {
-        return put_slice(out, p, b"none");
+        return Answer::Nothing;
     };
     let is_ce = if c.is_ce() { 1 } else { 0 };
     match c {
-        EcnCodepoint::Ect1 => line::ok_two(out, p, 1, is_ce),
-        EcnCodepoint::Ect0 => line::ok_two(out, p, 2, is_ce),
-        EcnCodepoint::Ce => line::ok_two(out, p, 3, is_ce),
+        EcnCodepoint::Ect1 => Answer::Two(1, is_ce),
+        EcnCodepoint::Ect0 => Answer::Two(2, is_ce),
+        EcnCodepoint::Ce => Answer::Two(3, is_ce),
     }
 }
 
-pub(crate) fn sidnew(side: u64, dir: u64, index: u64, out: &mut [u8], p: usize) -> usize {
+pub(crate) fn sidnew(side: u64, dir: u64, index: u64) -> Answer {
     if 1 < side {
-        return line::bad(out, p);
+        return Answer::Bad;
     }
     if 1 < dir {
-        return line::bad(out, p);
+        return Answer::Bad;
     }
     let from = if side == 0 {
         Side::Client
@@ -107,24 +86,30 @@ pub(crate) fn sidnew(side: u64, dir: u64, index: u64, out: &mut [u8], p: usize) 
     };
     let to = if dir == 0 { Dir::Bi } else { Dir::Uni };
     match StreamId::new(from, to, index) {
-        StreamMade::Stream(id) => line::ok(out, p, id.0),
-        StreamMade::Refused(why) => line::no(out, p, why),
+        StreamMade::Stream(id) => Answer::One(id.0),
+        StreamMade::Refused(why) => Answer::No(why),
+    }
+}
+
+fn side_of(id: StreamId) -> u64 {
+    match id.initiator() {
+        Side::Client => 0,
+        Side::Server => 1,
+    }
+}
+
+fn dir_of(id: StreamId) -> u64 {
+    match id.dir() {
+        Dir::Bi => 0,
+        Dir::Uni => 1,
     }
 }
 
 pub(crate) fn sid(x: u64, out: &mut [u8], p: usize) -> usize {
     let id = StreamId(x);
-    let side = match id.initiator() {
-        Side::Client => 0,
-        Side::Server => 1,
-    };
-    let dir = match id.dir() {
-        Dir::Bi => 0,
-        Dir::Uni => 1,
-    };
-    let q = line::num(out, p, side);
-    let q = line::and_num(out, q, dir);
-    line::and_num(out, q, id.index())
+    let q = line::num(out, p, side_of(id));
+    let rest = [dir_of(id), id.index()];
+    line::and_nums(out, q, &rest)
 }
 
 // The constants, in the order of frame_types!.

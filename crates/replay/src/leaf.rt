@@ -1,4 +1,5 @@
 // The operations of `coding`: integers, fixed reads and puts, places.
+use crate::kinds;
 use coding::Place;
 use coding::PlaceRead;
 use coding::Refusal;
@@ -13,51 +14,29 @@ use coding::VarRead;
 use coding::part;
 use coding::put_slice;
 use records::line;
-use records::record::lay;
+use records::line::Answer;
+use records::record;
+use records::record::Numbers;
 
-// Where a put ended; bad where the record asks for none that there is.
-enum Ended {
-    At(usize),
-    Bad,
-}
-
-pub(crate) fn vread(at: u64, b: &[u8], out: &mut [u8], p: usize) -> usize {
-    let VarRead::Var(v, next) = coding::get_var(b, at as usize) else {
-        return line::no(out, p, Refusal::UnexpectedEnd);
+pub(crate) fn vread(ns: Numbers, b: &[u8]) -> Answer {
+    let VarRead::Var(v, next) = coding::get_var(b, ns.n0 as usize) else {
+        return Answer::No(Refusal::UnexpectedEnd);
     };
-    line::ok_two(out, p, v.into_inner(), next as u64)
+    Answer::Two(v.into_inner(), next as u64)
 }
 
-pub(crate) fn vfrom(x: u64, out: &mut [u8], p: usize) -> usize {
+pub(crate) fn vfrom(x: u64) -> Answer {
     match VarInt::from_u64(x) {
-        VarMade::Var(v) => line::ok(out, p, v.into_inner()),
-        VarMade::Refused(why) => line::no(out, p, why),
+        VarMade::Var(v) => Answer::One(v.into_inner()),
+        VarMade::Refused(why) => Answer::No(why),
     }
 }
 
-pub(crate) fn vsize(x: u64, out: &mut [u8], p: usize) -> usize {
+pub(crate) fn vsize(x: u64) -> Answer {
     match VarInt(x).size() {
-        Sized::Bytes(n) => line::ok(out, p, n as u64),
-        Sized::Refused(why) => line::no(out, p, why),
+        Sized::Bytes(n) => Answer::One(n as u64),
+        Sized::Refused(why) => Answer::No(why),
     }
-}
-
-pub(crate) fn vwrite(x: u64, b: &[u8], work: &mut [u8], out: &mut [u8], p: usize) -> usize {
-    let n = lay(work, b);
-    let said = VarInt(x).encode(&mut work[..n]);
-    line::wrote(out, p, said, part(work, Place { start: 0, len: n }))
-}
-
-// Where a put ended, and the first n bytes of work.
-fn put_ended(next: usize, work: &[u8], n: usize, out: &mut [u8], p: usize) -> usize {
-    let q = line::num(out, p, next as u64);
-    line::and_hex(out, q, part(work, Place { start: 0, len: n }))
-}
-
-pub(crate) fn vput(at: u64, x: u64, b: &[u8], work: &mut [u8], out: &mut [u8], p: usize) -> usize {
-    let n = lay(work, b);
-    let next = coding::write_var(&mut work[..n], at as usize, x);
-    put_ended(next, work, n, out, p)
 }
 
 // A number of any width as one of 8 bytes.
@@ -82,98 +61,80 @@ fn from_u32(read: U32Read) -> U64Read {
     }
 }
 
-fn got(read: U64Read, out: &mut [u8], p: usize) -> usize {
+fn got(read: U64Read) -> Answer {
     match read {
-        U64Read::Num(x, next) => line::ok_two(out, p, x, next as u64),
-        U64Read::End => line::no(out, p, Refusal::UnexpectedEnd),
+        U64Read::Num(x, next) => Answer::Two(x, next as u64),
+        U64Read::End => Answer::No(Refusal::UnexpectedEnd),
     }
 }
 
-pub(crate) fn get(width: u64, at: u64, b: &[u8], out: &mut [u8], p: usize) -> usize {
-    let at = at as usize;
+pub(crate) fn get(ns: Numbers, b: &[u8]) -> Answer {
+    let width = ns.n0;
+    let at = ns.n1 as usize;
     match width {
-        1 => got(from_u8(coding::get_u8(b, at)), out, p),
-        2 => got(from_u16(coding::get_u16(b, at)), out, p),
-        4 => got(from_u32(coding::get_u32(b, at)), out, p),
-        8 => got(coding::get_u64(b, at), out, p),
-        _ => line::bad(out, p),
+        1 => got(from_u8(coding::get_u8(b, at))),
+        2 => got(from_u16(coding::get_u16(b, at))),
+        4 => got(from_u32(coding::get_u32(b, at))),
+        8 => got(coding::get_u64(b, at)),
+        _ => Answer::Bad,
     }
+}
+
+pub(crate) fn take(ns: Numbers, b: &[u8]) -> Answer {
+    let PlaceRead::At(place, next) = coding::take(b, ns.n0 as usize, ns.n1) else {
+        return Answer::No(Refusal::UnexpectedEnd);
+    };
+    Answer::Three(place.start as u64, place.len as u64, next as u64)
+}
+
+pub(crate) fn part_at(ns: Numbers, b: &[u8]) -> &[u8] {
+    let start = ns.n0 as usize;
+    let len = ns.n1 as usize;
+    part(b, Place { start, len })
 }
 
 // A put of a width, of a number that is in it; any other width or number is bad.
-fn put_width(width: u64, buf: &mut [u8], at: usize, x: u64) -> Ended {
+fn put(width: u64, buf: &mut [u8], at: usize, x: u64) -> Answer {
     match width {
         1 => {
             if x < 0x100 {
-                return Ended::At(coding::put_u8(buf, at, x as u8));
+                return Answer::Number(coding::put_u8(buf, at, x as u8) as u64);
             }
-            Ended::Bad
+            Answer::Bad
         }
         2 => {
             if x < 0x1_0000 {
-                return Ended::At(coding::put_u16(buf, at, x as u16));
+                return Answer::Number(coding::put_u16(buf, at, x as u16) as u64);
             }
-            Ended::Bad
+            Answer::Bad
         }
         4 => {
             if x < 0x1_0000_0000 {
-                return Ended::At(coding::put_u32(buf, at, x as u32));
+                return Answer::Number(coding::put_u32(buf, at, x as u32) as u64);
             }
-            Ended::Bad
+            Answer::Bad
         }
-        8 => Ended::At(coding::put_u64(buf, at, x)),
-        _ => Ended::Bad,
+        8 => Answer::Number(coding::put_u64(buf, at, x) as u64),
+        _ => Answer::Bad,
     }
 }
 
-pub(crate) fn put(
-    width: u64,
-    at: u64,
-    x: u64,
-    b: &[u8],
-    work: &mut [u8],
-    out: &mut [u8],
-    p: usize,
-) -> usize {
-    let n = lay(work, b);
-    let Ended::At(next) = put_width(width, &mut work[..n], at as usize, x) else {
-        return line::bad(out, p);
-    };
-    put_ended(next, work, n, out, p)
+// vwrite, vput, put, puts and cidenc, into a lent buffer. A put answers where it ended.
+fn run(op: u8, ns: Numbers, bytes: &[u8], buf: &mut [u8]) -> Answer {
+    match op {
+        4 => line::written(VarInt(ns.n0).encode(buf)),
+        5 => Answer::Number(coding::write_var(buf, ns.n0 as usize, ns.n1) as u64),
+        7 => put(ns.n0, buf, ns.n1 as usize, ns.n2),
+        8 => Answer::Number(put_slice(buf, ns.n0 as usize, bytes) as u64),
+        _ => kinds::cidenc(ns.n0, bytes, buf),
+    }
 }
 
-pub(crate) fn puts(
-    at: u64,
-    bytes: &[u8],
-    b: &[u8],
-    work: &mut [u8],
-    out: &mut [u8],
-    p: usize,
-) -> usize {
-    let n = lay(work, b);
-    let next = put_slice(&mut work[..n], at as usize, bytes);
-    put_ended(next, work, n, out, p)
-}
-
-pub(crate) fn take(at: u64, n: u64, b: &[u8], out: &mut [u8], p: usize) -> usize {
-    let PlaceRead::At(place, next) = coding::take(b, at as usize, n) else {
-        return line::no(out, p, Refusal::UnexpectedEnd);
-    };
-    let q = line::ok(out, p, place.start as u64);
-    let q = line::and_num(out, q, place.len as u64);
-    line::and_num(out, q, next as u64)
-}
-
-pub(crate) fn part_at(start: u64, len: u64, b: &[u8], out: &mut [u8], p: usize) -> usize {
-    line::hex(
-        out,
-        p,
-        part(
-            b,
-            Place {
-                start: start as usize,
-                len: len as usize,
-            },
-        ),
-    )
+// The lent buffer is the record's last part, laid into work.
+pub(crate) fn write(op: u8, rec: &[u8], work: &mut [u8], out: &mut [u8], p: usize) -> usize {
+    let ns = record::numbers_of(rec);
+    let last = if op < 8 { 0 } else { 1 };
+    let n = record::lay(work, record::bytes(rec, last));
+    let said = run(op, ns, record::bytes(rec, 0), &mut work[..n]);
+    line::wrote(out, p, said, part(work, Place { start: 0, len: n }))
 }

@@ -9,55 +9,54 @@ use coding::part;
 use libc::STDIN_FILENO;
 use libc::STDOUT_FILENO;
 use records::line;
+use records::line::Answer;
 use records::record;
-use records::record::Feed;
+use records::record::Numbers;
 use records::record::Turn;
 
-// The answer of an operation to a record's fields, put at a place of out.
-fn answer(op: u8, rec: &[u8], work: &mut [u8], out: &mut [u8], at: usize) -> usize {
-    let a = record::number(rec, 0);
-    let b = record::number(rec, 1);
-    let c = record::number(rec, 2);
-    let x = record::bytes(rec, 0);
-    let y = record::bytes(rec, 1);
+// The operations that answer with a word and numbers.
+fn said(op: u8, ns: Numbers, b: &[u8]) -> Answer {
     match op {
-        1 => leaf::vread(a, x, out, at),
-        2 => leaf::vfrom(a, out, at),
-        3 => leaf::vsize(a, out, at),
-        4 => leaf::vwrite(a, x, work, out, at),
-        5 => leaf::vput(a, b, x, work, out, at),
-        6 => leaf::get(a, b, x, out, at),
-        7 => leaf::put(a, b, c, x, work, out, at),
-        8 => leaf::puts(a, x, y, work, out, at),
-        9 => leaf::take(a, b, x, out, at),
-        10 => leaf::part_at(a, b, x, out, at),
-        11 => kinds::cidnew(x, out, at),
-        12 => kinds::cidbuf(a, b, x, out, at),
-        13 => kinds::ciddec(a, x, out, at),
-        14 => kinds::cidenc(a, x, y, work, out, at),
-        15 => kinds::ecnbits(a, out, at),
-        16 => kinds::sidnew(a, b, c, out, at),
-        17 => kinds::sid(a, out, at),
-        18 => kinds::ftypes(out, at),
-        _ => line::bad(out, at),
+        1 => leaf::vread(ns, b),
+        2 => leaf::vfrom(ns.n0),
+        3 => leaf::vsize(ns.n0),
+        6 => leaf::get(ns, b),
+        9 => leaf::take(ns, b),
+        15 => kinds::ecnbits(ns.n0),
+        16 => kinds::sidnew(ns.n0, ns.n1, ns.n2),
+        _ => Answer::Bad,
     }
 }
 
-// The next record; where it is not yet whole, more is read behind what is left.
-fn next(buf: &mut [u8], work: &mut [u8], f: Feed) -> Turn {
-    let t = record::find(buf, f);
-    if let Turn::Record(_, _, _) = t {
-        return t;
+// The answer of an operation to a record's fields, put at a place of out.
+fn answer(op: u8, rec: &[u8], work: &mut [u8], out: &mut [u8], at: usize) -> usize {
+    let ns = record::numbers_of(rec);
+    let b = record::bytes(rec, 0);
+    match op {
+        4 | 5 | 7 | 8 | 14 => leaf::write(op, rec, work, out, at),
+        10 => line::hex(out, at, leaf::part_at(ns, b)),
+        11 | 12 | 13 => kinds::cids(op, ns, b, out, at),
+        17 => kinds::sid(ns.n0, out, at),
+        18 => kinds::ftypes(out, at),
+        _ => line::say(out, at, said(op, ns, b)),
     }
-    let left = record::to_front(buf, work, f);
-    let more = io::read_full(STDIN_FILENO, &mut buf[left..]);
-    record::find(
-        buf,
-        Feed {
-            from: 0,
-            have: left + more,
-        },
-    )
+}
+
+// Reads the next record: its first 4 bytes, then its fields into buf.
+fn next(buf: &mut [u8]) -> Turn {
+    let mut first = [0u8; 4];
+    let n = io::read_full(STDIN_FILENO, &mut first);
+    let t = record::head(&first[..n]);
+    let Turn::Record(_, len) = t else {
+        return t;
+    };
+    if buf.len() < len {
+        return Turn::Cut;
+    }
+    if io::read_full(STDIN_FILENO, &mut buf[..len]) < len {
+        return Turn::Cut;
+    }
+    t
 }
 
 fn write_out(out: &[u8], len: usize) {
@@ -78,26 +77,24 @@ fn end_line(out: &mut [u8], at: usize) -> usize {
 const MOST: u64 = 1_000_000_000_000_000;
 
 fn run(buf: &mut [u8], work: &mut [u8], out: &mut [u8]) {
-    let mut f = Feed { from: 0, have: 0 };
     let mut at = 0;
     let mut count = 0;
     while count < MOST {
-        let t = next(buf, work, f);
-        let Turn::Record(op, rest, after) = t else {
+        let t = next(buf);
+        let Turn::Record(op, len) = t else {
             let p = line::end(out, at, t, count);
-            let p = coding::put_u8(out, p, b'\n');
             write_out(out, p);
             return;
         };
-        let p = answer(op, part(buf, rest), work, out, at);
+        let p = answer(op, part(buf, Place { start: 0, len }), work, out, at);
         at = end_line(out, p);
-        f = after;
         count += 1;
     }
 }
 
+// A record of 70,000 bytes has room, with the 4 before its fields.
 fn main() {
-    let mut buf = [0u8; 70_000];
+    let mut buf = [0u8; 69_996];
     let mut work = [0u8; 70_000];
     let mut out = [0u8; 300_000];
     run(&mut buf, &mut work, &mut out);

@@ -8,8 +8,8 @@ use protect::Kind;
 use protect::NumberLen;
 use protect::SamplePlace;
 use records::line;
+use records::line::Answer;
 use records::record;
-use shared::CutNumber;
 
 // The kind of this number; 0 to 5.
 fn kind_by(n: u64) -> Kind {
@@ -20,6 +20,18 @@ fn kind_by(n: u64) -> Kind {
         3 => Kind::Retry,
         4 => Kind::Short,
         _ => Kind::VersionNegotiate,
+    }
+}
+
+// The place of a kind's words among all of them.
+fn kind_words(kind: Kind) -> Place {
+    match kind {
+        Kind::Initial => Place { start: 0, len: 10 },
+        Kind::ZeroRtt => Place { start: 10, len: 7 },
+        Kind::Handshake => Place { start: 17, len: 12 },
+        Kind::Retry => Place { start: 29, len: 8 },
+        Kind::Short => Place { start: 37, len: 8 },
+        Kind::VersionNegotiate => Place { start: 45, len: 7 },
     }
 }
 
@@ -35,92 +47,99 @@ fn mask_of(b: &[u8]) -> [u8; 5] {
     [byte(b, 0), byte(b, 1), byte(b, 2), byte(b, 3), byte(b, 4)]
 }
 
-fn and_kind(kind: Kind, out: &mut [u8], p: usize) -> usize {
-    match kind {
-        Kind::Initial => put_slice(out, p, b" initial"),
-        Kind::ZeroRtt => put_slice(out, p, b" 0rtt"),
-        Kind::Handshake => put_slice(out, p, b" handshake"),
-        Kind::Retry => put_slice(out, p, b" retry"),
-        Kind::Short => put_slice(out, p, b" short"),
-        Kind::VersionNegotiate => put_slice(out, p, b" vneg"),
-    }
+// What finish says: the number's length, its value and whether the reserved bits are clear, and the place of the words after
+// them: 0 or 1 for the key phase, none, or none of all four.
+struct Said {
+    number: NumberLen,
+    value: u64,
+    clear: u64,
+    last: Place,
 }
 
-fn and_flag(is: bool, out: &mut [u8], p: usize) -> usize {
-    if is {
-        return put_slice(out, p, b" 1");
-    }
-    put_slice(out, p, b" 0")
+fn flag(is: bool) -> u64 {
+    if is { 1 } else { 0 }
 }
 
-// The header and the payload that finish leaves.
-fn and_parts(packet: &[u8], at: usize, number: NumberLen, out: &mut [u8], p: usize) -> usize {
-    let q = line::and_hex(out, p, protect::header_part(packet, at, number));
-    line::and_hex(out, q, protect::payload_part(packet, at, number))
-}
-
-fn and_number(number: CutNumber, reserved_clear: bool, out: &mut [u8], p: usize) -> usize {
-    let q = line::and_num(out, p, number.0 as u64);
-    let q = line::and_num(out, q, number.1 as u64);
-    and_flag(reserved_clear, out, q)
-}
-
-// What finish said, where it did not refuse, and the packet after it.
-fn and_finished(said: Finished, packet: &[u8], at: usize, out: &mut [u8], p: usize) -> usize {
-    match said {
+fn said_of(finished: Finished) -> Said {
+    match finished {
         Finished::Long {
             number,
             reserved_clear,
-        } => {
-            let q = and_number(number, reserved_clear, out, p);
-            let q = put_slice(out, q, b" -");
-            and_parts(packet, at, NumberLen::Bytes(number.0), out, q)
-        }
+        } => Said {
+            number: NumberLen::Bytes(number.0),
+            value: number.1 as u64,
+            clear: flag(reserved_clear),
+            last: Place { start: 4, len: 2 },
+        },
         Finished::Short {
             number,
             reserved_clear,
             key_phase,
-        } => {
-            let q = and_number(number, reserved_clear, out, p);
-            let q = and_flag(key_phase, out, q);
-            and_parts(packet, at, NumberLen::Bytes(number.0), out, q)
-        }
-        Finished::Nothing => {
-            let q = put_slice(out, p, b" - - - -");
-            and_parts(packet, at, NumberLen::Nothing, out, q)
-        }
-        Finished::Refused(_) => line::bad(out, p),
+        } => Said {
+            number: NumberLen::Bytes(number.0),
+            value: number.1 as u64,
+            clear: flag(reserved_clear),
+            last: Place {
+                start: if key_phase { 2 } else { 0 },
+                len: 2,
+            },
+        },
+        _ => Said {
+            number: NumberLen::Nothing,
+            value: 0,
+            clear: 0,
+            last: Place { start: 4, len: 8 },
+        },
     }
 }
 
-// What finish said of a packet, and the packet after it.
-fn finished(
+fn and_number(said: Said, out: &mut [u8], p: usize) -> usize {
+    let number = said.number;
+    let NumberLen::Bytes(k) = number else {
+        return p;
+    };
+    let ns = [k as u64, said.value, said.clear];
+    line::and_nums(out, p, &ns)
+}
+
+// What finish says, where it does not refuse, and the header and the payload that it leaves.
+fn and_said(said: Said, packet: &[u8], at: usize, out: &mut [u8], p: usize) -> usize {
+    let number = said.number;
+    let q = and_number(said, out, p);
+    let q = put_slice(out, q, part(b" 0 1 - - - -", said.last));
+    let q = line::and_hex(out, q, protect::header_part(packet, at, number));
+    line::and_hex(out, q, protect::payload_part(packet, at, number))
+}
+
+// What finish says of a packet, and the packet after it.
+fn put_finished(
     kind: Kind,
-    said: Finished,
+    finished: Finished,
     packet: &[u8],
     at: usize,
     out: &mut [u8],
     p: usize,
 ) -> usize {
-    if let Finished::Refused(why) = said {
-        let q = line::no(out, p, why);
+    if let Finished::Refused(why) = finished {
+        let q = line::say(out, p, Answer::No(why));
         return line::and_hex(out, q, packet);
     }
-    let q = put_slice(out, p, b"ok");
-    let q = and_kind(kind, out, q);
-    and_finished(said, packet, at, out, q)
+    let words = b"ok initialok 0rttok handshakeok retryok shortok vneg";
+    let q = put_slice(out, p, part(words, kind_words(kind)));
+    and_said(said_of(finished), packet, at, out, q)
 }
 
 // Finish of a packet, laid into work.
 pub(crate) fn finish(rec: &[u8], work: &mut [u8], out: &mut [u8], p: usize) -> usize {
-    let kind = kind_by(record::number(rec, 0));
-    let at = record::number(rec, 1) as usize;
+    let ns = record::numbers_of(rec);
+    let kind = kind_by(ns.n0);
+    let at = ns.n1 as usize;
     let mask = mask_of(record::bytes(rec, 0));
     let n = record::lay(work, record::bytes(rec, 1));
-    let said = protect::finish(kind, &mut work[..n], at, mask);
-    finished(
+    let finished = protect::finish(kind, &mut work[..n], at, mask);
+    put_finished(
         kind,
-        said,
+        finished,
         part(work, Place { start: 0, len: n }),
         at,
         out,
@@ -128,12 +147,12 @@ pub(crate) fn finish(rec: &[u8], work: &mut [u8], out: &mut [u8], p: usize) -> u
     )
 }
 
-pub(crate) fn sample(rec: &[u8], out: &mut [u8], p: usize) -> usize {
-    let kind = kind_by(record::number(rec, 0));
-    let at = record::number(rec, 1) as usize;
-    match protect::sample_place(kind, record::bytes(rec, 0), at) {
-        SamplePlace::At(place) => line::ok_two(out, p, place.start as u64, place.len as u64),
-        SamplePlace::Nothing => put_slice(out, p, b"none"),
-        SamplePlace::Refused(why) => line::no(out, p, why),
+pub(crate) fn sample(rec: &[u8]) -> Answer {
+    let ns = record::numbers_of(rec);
+    let said = protect::sample_place(kind_by(ns.n0), record::bytes(rec, 0), ns.n1 as usize);
+    match said {
+        SamplePlace::At(place) => Answer::Two(place.start as u64, place.len as u64),
+        SamplePlace::Nothing => Answer::Nothing,
+        SamplePlace::Refused(why) => Answer::No(why),
     }
 }

@@ -1,4 +1,5 @@
 // ACK blocks, scanned and stepped over, and ECN counts.
+use crate::shown;
 use ack::AckStep;
 use ack::Scanned;
 use coding::Place;
@@ -7,42 +8,29 @@ use coding::put_slice;
 use ecn::EcnCounts;
 use ecn::Raise;
 use records::line;
+use records::line::Answer;
+use records::record::Numbers;
 use shared::EcnCodepoint;
 use shared::EcnRead;
 use shared::FullNumber;
 
 // The place past the blocks, and the ranges that they hold.
-pub(crate) fn ackscan(
-    at: u64,
-    largest: u64,
-    extra: u64,
-    b: &[u8],
-    out: &mut [u8],
-    p: usize,
-) -> usize {
-    let start = at as usize;
-    match ack::scan_ack_blocks(b, start, FullNumber(largest), extra) {
-        Scanned::Refused(why) => line::no(out, p, why),
+pub(crate) fn ackscan(ns: Numbers, b: &[u8], out: &mut [u8], at: usize) -> usize {
+    let start = ns.n0 as usize;
+    let largest = FullNumber(ns.n1);
+    match ack::scan_ack_blocks(b, start, largest, ns.n2) {
+        Scanned::Refused(why) => line::say(out, at, Answer::No(why)),
         Scanned::To(next) => {
-            let q = line::ok(out, p, next as u64);
-            if next < start {
-                return q;
-            }
-            let blocks = part(
-                b,
-                Place {
-                    start,
-                    len: next - start,
-                },
-            );
-            ranges(FullNumber(largest), blocks, out, q)
+            let p = line::say(out, at, Answer::One(next as u64));
+            let len = left(next, start);
+            ranges(largest, part(b, Place { start, len }), out, p)
         }
     }
 }
 
 fn range(low: FullNumber, high: FullNumber, out: &mut [u8], at: usize) -> usize {
     let p = line::and_num(out, at, low.0);
-    let p = coding::put_u8(out, p, b'-');
+    let p = put_slice(out, p, b"-");
     line::num(out, p, high.0)
 }
 
@@ -69,14 +57,11 @@ pub(crate) fn ranges(largest: FullNumber, blocks: &[u8], out: &mut [u8], at: usi
 
 // What a step says.
 fn said(answer: AckStep, out: &mut [u8], at: usize) -> usize {
-    match answer {
-        AckStep::Range(low, high) => {
-            let p = line::num(out, at, low.0);
-            line::and_num(out, p, high.0)
-        }
-        AckStep::End => put_slice(out, at, b"end"),
-        AckStep::Refused(why) => line::no(out, at, why),
-    }
+    let AckStep::Range(low, high) = answer else {
+        return shown::and_text(shown::no_range(answer), out, at);
+    };
+    let p = line::num(out, at, low.0);
+    line::and_num(out, p, high.0)
 }
 
 // How many bytes are left from a place on.
@@ -97,10 +82,8 @@ fn rest(b: &[u8], from: usize) -> &[u8] {
 // A step, and how the reader stands after it: its largest, and the bytes that are left.
 fn stepped(answer: AckStep, largest: FullNumber, bytes: usize, out: &mut [u8], at: usize) -> usize {
     let p = said(answer, out, at);
-    let p = put_slice(out, p, b" :");
-    let p = line::and_num(out, p, largest.0);
-    let p = line::and_num(out, p, bytes as u64);
-    coding::put_u8(out, p, b';')
+    let p = shown::and_text(shown::stands(largest, bytes), out, p);
+    put_slice(out, p, b";")
 }
 
 // Each step until the bytes end or one is refused. What it says is asked of AckIter over the bytes that are left, how the
@@ -125,32 +108,57 @@ pub(crate) fn ackiter(largest: u64, b: &[u8], out: &mut [u8], at: usize) -> usiz
     p
 }
 
-// Three counts, each after a space.
-pub(crate) fn counts(c: EcnCounts, out: &mut [u8], at: usize) -> usize {
-    let p = line::and_num(out, at, c.ect0);
-    let p = line::and_num(out, p, c.ect1);
-    line::and_num(out, p, c.ce)
+// The counts after a codepoint's was raised, or as they were with the refusal; none where there is no codepoint.
+struct Raised {
+    answer: Answer,
+    counted: bool,
+    counts: EcnCounts,
 }
 
-// The counts after a codepoint's was raised, or as they were with the refusal.
-pub(crate) fn ecn(before: EcnCounts, bits: u64, out: &mut [u8], at: usize) -> usize {
+fn said_of(answer: Raise) -> Answer {
+    match answer {
+        Raise::Done => Answer::Done,
+        Raise::Refused(why) => Answer::No(why),
+    }
+}
+
+fn raise(before: EcnCounts, bits: u64) -> Raised {
     if 255 < bits {
-        return line::bad(out, at);
+        return Raised {
+            answer: Answer::Bad,
+            counted: false,
+            counts: before,
+        };
     }
     let EcnRead::Ecn(point) = EcnCodepoint::from_bits(bits as u8) else {
-        return put_slice(out, at, b"none");
+        return Raised {
+            answer: Answer::Nothing,
+            counted: false,
+            counts: before,
+        };
     };
     let r = held::raised(before, point);
-    let after = r.counts;
     let answer = r.answer;
-    match answer {
-        Raise::Done => {
-            let p = put_slice(out, at, b"ok");
-            counts(after, out, p)
-        }
-        Raise::Refused(why) => {
-            let p = line::no(out, at, why);
-            counts(after, out, p)
-        }
+    let counts = r.counts;
+    Raised {
+        answer: said_of(answer),
+        counted: true,
+        counts,
     }
+}
+
+pub(crate) fn ecn(ns: Numbers, out: &mut [u8], at: usize) -> usize {
+    let before = EcnCounts {
+        ect0: ns.n0,
+        ect1: ns.n1,
+        ce: ns.n2,
+    };
+    let r = raise(before, ns.n3);
+    let answer = r.answer;
+    let p = line::say(out, at, answer);
+    if !r.counted {
+        return p;
+    }
+    let counts = [r.counts.ect0, r.counts.ect1, r.counts.ce];
+    line::and_nums(out, p, &counts)
 }

@@ -1,53 +1,72 @@
 // The frames of a payload, one step after the other.
 use crate::shown;
+use crate::shown::Text;
 use coding::Refusal;
-use coding::put_slice;
-use frame::Frame;
 use frame::FrameRead;
 use frame::FrameStep;
-use frame::TypeRead;
 use records::line;
-use shared::FrameType;
+use records::line::Answer;
 
-// A frame's start and its size.
-fn begun(out: &mut [u8], at: usize, start: usize, size: usize) -> usize {
-    let p = put_slice(out, at, b" ; ");
-    let p = line::num(out, p, start as u64);
-    let p = line::and_num(out, p, size as u64);
-    coding::put_u8(out, p, b' ')
+// What a step of the walk says: the texts of its start and of itself, and where the next step is, where there is one; and what
+// the first says of the whole payload.
+struct Met {
+    begun: Text,
+    text: Text,
+    more: bool,
+    next: usize,
+    whole: Answer,
 }
 
-// The type as it was read, the one that stands for the frame, whether it elicits an acknowledgement; its name and values.
-fn read(payload: &[u8], ty: FrameType, frame: Frame, out: &mut [u8], at: usize) -> usize {
-    let p = line::num(out, at, ty.0);
-    let stands = frame.ty();
-    let p = line::and_num(out, p, stands.0);
-    let p = line::and_num(out, p, shown::flag(frame.is_ack_eliciting()));
-    let p = coding::put_u8(out, p, b' ');
-    shown::frame(payload, frame, out, p)
-}
-
-// A frame's refusal, with its type once read.
-fn refused(why: Refusal, ty: TypeRead, out: &mut [u8], at: usize) -> usize {
-    let p = line::no(out, at, why);
-    shown::type_read(ty, out, p)
-}
-
-// The payload's own refusals come before all frames.
-pub(crate) fn frames(payload: &[u8], out: &mut [u8], at: usize) -> usize {
-    if let FrameStep::Read(first) = frame::step(payload, 0) {
-        if let FrameRead::Refused {
-            why,
-            start: _,
-            ty: _,
-        } = first {
-            if 12 < why.number() {
-                return line::no(out, at, why);
-            }
-        }
+// The payload's own refusals are past 12.
+fn whole(why: Refusal) -> Answer {
+    if why.number() <= 12 {
+        return Answer::Done;
     }
-    let p = put_slice(out, at, b"ok");
-    each(payload, out, p)
+    Answer::No(why)
+}
+
+fn met_by(start: usize, size: usize, said: FrameRead) -> Met {
+    match said {
+        FrameRead::Got { frame, ty, next } => Met {
+            begun: shown::typed(start, size, ty, frame),
+            text: shown::frame(frame),
+            more: true,
+            next,
+            whole: Answer::Done,
+        },
+        FrameRead::Refused { why, start: _, ty } => Met {
+            begun: shown::begun(start, size),
+            text: shown::refused(why, ty),
+            more: false,
+            next: 0,
+            whole: whole(why),
+        },
+    }
+}
+
+fn at_end() -> Met {
+    Met {
+        begun: shown::nothing(),
+        text: shown::nothing(),
+        more: false,
+        next: 0,
+        whole: Answer::Done,
+    }
+}
+
+fn step(payload: &[u8], start: usize) -> Met {
+    let s = frame::next_with_size(payload, start);
+    let step = s.step;
+    let FrameStep::Read(said) = step else {
+        return at_end();
+    };
+    met_by(start, s.size, said)
+}
+
+fn and_met(payload: &[u8], m: Met, out: &mut [u8], at: usize) -> usize {
+    let p = shown::and_text(m.begun, out, at);
+    let p = shown::and_text(m.text, out, p);
+    shown::and_ranges(payload, m.text, out, p)
 }
 
 // Each frame until the payload ends or one is refused; each has a byte.
@@ -56,23 +75,24 @@ fn each(payload: &[u8], out: &mut [u8], at: usize) -> usize {
     let mut start = 0;
     let mut turns = 0;
     while turns <= payload.len() {
-        let s = frame::next_with_size(payload, start);
-        let step = s.step;
-        let FrameStep::Read(said) = step else {
+        let m = step(payload, start);
+        p = and_met(payload, m, out, p);
+        if !m.more {
             return p;
-        };
-        p = begun(out, p, start, s.size);
-        match said {
-            FrameRead::Got { frame, ty, next } => {
-                p = read(payload, ty, frame, out, p);
-                p = crate::spill(out, p);
-                start = next;
-            }
-            FrameRead::Refused { why, start: _, ty } => {
-                return refused(why, ty, out, p);
-            }
         }
+        p = crate::spill(out, p);
+        start = m.next;
         turns += 1;
     }
     p
+}
+
+pub(crate) fn frames(payload: &[u8], out: &mut [u8], at: usize) -> usize {
+    let first = step(payload, 0);
+    let whole = first.whole;
+    let p = line::say(out, at, whole);
+    if let Answer::No(_) = whole {
+        return p;
+    }
+    each(payload, out, p)
 }

@@ -13,18 +13,14 @@ use frame::TypeRead;
 use frame_out::CloseKind;
 use frame_out::StreamMeta;
 use records::line;
+use records::line::Answer;
 use records::record;
+use records::record::Numbers;
 use shared::ConnectionId;
 use shared::FrameType;
 use shared::StreamId;
 ghost use Prim.Native.Nat.{_≤_};
 ghost use lib.ListN.{length};
-
-// What an encoder answered; bad where the record asks for none that there is.
-enum Ran {
-    Wrote(Wrote),
-    Bad,
-}
 
 // The place of the lent buffer among a record's parts.
 fn lent_part(kind: u64) -> u8 {
@@ -41,62 +37,73 @@ fn lent_part(kind: u64) -> u8 {
 }
 
 pub(crate) fn fenc(rec: &[u8], work: &mut [u8], out: &mut [u8], p: usize) -> usize {
-    let kind = record::number(rec, 0);
-    let n = record::lay(work, record::bytes(rec, lent_part(kind)));
-    let ran = run(kind, rec, &mut work[..n]);
-    match ran {
-        Ran::Wrote(said) => line::wrote(out, p, said, part(work, Place { start: 0, len: n })),
-        Ran::Bad => line::bad(out, p),
-    }
+    let ns = record::numbers_of(rec);
+    let n = record::lay(work, record::bytes(rec, lent_part(ns.n0)));
+    let said = encode(ns, rec, &mut work[..n]);
+    line::wrote(out, p, said, part(work, Place { start: 0, len: n }))
 }
 
-// The kinds, by their numbers in the oracle's table.
-fn run(kind: u64, rec: &[u8], buf: &mut [u8]) -> Ran {
+fn encode(ns: Numbers, rec: &[u8], buf: &mut [u8]) -> Answer {
+    if 14 < ns.n0 {
+        return Answer::Bad;
+    }
+    line::written(run(ns, rec, buf))
+}
+
+// The kinds, by their numbers in the oracle's table: those of numbers alone, and those with parts.
+fn run(ns: Numbers, rec: &[u8], buf: &mut [u8]) -> Wrote {
+    let kind = ns.n0;
     match kind {
-        0 => Ran::Wrote(reset(rec, buf)),
-        1 => Ran::Wrote(stop(rec, buf)),
-        2 => Ran::Wrote(frame_out::crypto(record::number(rec, 1), record::bytes(rec, 0), buf)),
-        3 => Ran::Wrote(frame_out::new_token(record::bytes(rec, 0), buf)),
-        4 => Ran::Wrote(stream(rec, buf)),
-        5 => Ran::Wrote(new_cid(rec, buf)),
-        6 => Ran::Wrote(datagram(rec, buf)),
-        7 => Ran::Wrote(ack_frequency(rec, buf)),
-        8 => Ran::Wrote(close(rec, buf)),
-        9 => Ran::Wrote(application_close(rec, buf)),
-        10 => Ran::Wrote(ack(rec, buf)),
-        11 => Ran::Wrote(frame_out::ecn_counts(counts(rec), buf)),
-        12 => Ran::Wrote(frame_out::encode_type(FrameType(record::number(rec, 1)), buf)),
-        13 => Ran::Wrote(frame_out::encode_stream_id(StreamId(record::number(rec, 1)), buf)),
-        14 => Ran::Wrote(frame_out::encode_error_code(record::number(rec, 1), buf)),
-        _ => Ran::Bad,
+        0 => reset(ns, buf),
+        1 => stop(ns, buf),
+        4 => stream(ns, buf),
+        7 => ack_frequency(ns, buf),
+        11 => frame_out::ecn_counts(counts(ns), buf),
+        12 => frame_out::encode_type(FrameType(ns.n1), buf),
+        13 => frame_out::encode_stream_id(StreamId(ns.n1), buf),
+        14 => frame_out::encode_error_code(ns.n1, buf),
+        _ => run_parts(ns, record::bytes(rec, 0), record::bytes(rec, 1), buf),
     }
 }
 
-fn reset(rec: &[u8], buf: &mut [u8]) -> Wrote {
+fn run_parts(ns: Numbers, first: &[u8], second: &[u8], buf: &mut [u8]) -> Wrote {
+    let kind = ns.n0;
+    match kind {
+        2 => frame_out::crypto(ns.n1, first, buf),
+        3 => frame_out::new_token(first, buf),
+        5 => new_cid(ns, first, second, buf),
+        6 => frame_out::datagram(ns.n1 == 1, first, buf),
+        8 => close(ns, first, second, buf),
+        9 => application_close(ns, first, buf),
+        _ => ack(ns.n1, first, second, buf),
+    }
+}
+
+fn reset(ns: Numbers, buf: &mut [u8]) -> Wrote {
     let frame = ResetStream {
-        id: StreamId(record::number(rec, 1)),
-        error_code: record::number(rec, 2),
-        final_offset: record::number(rec, 3),
+        id: StreamId(ns.n1),
+        error_code: ns.n2,
+        final_offset: ns.n3,
     };
     frame_out::reset_stream(frame, buf)
 }
 
-fn stop(rec: &[u8], buf: &mut [u8]) -> Wrote {
+fn stop(ns: Numbers, buf: &mut [u8]) -> Wrote {
     let frame = StopSending {
-        id: StreamId(record::number(rec, 1)),
-        error_code: record::number(rec, 2),
+        id: StreamId(ns.n1),
+        error_code: ns.n2,
     };
     frame_out::stop_sending(frame, buf)
 }
 
-fn stream(rec: &[u8], buf: &mut [u8]) -> Wrote {
+fn stream(ns: Numbers, buf: &mut [u8]) -> Wrote {
     let meta = StreamMeta {
-        id: StreamId(record::number(rec, 1)),
-        start: record::number(rec, 2),
-        end: record::number(rec, 3),
-        fin: record::number(rec, 4) == 1,
+        id: StreamId(ns.n1),
+        start: ns.n2,
+        end: ns.n3,
+        fin: ns.n4 == 1,
     };
-    frame_out::stream_meta(meta, record::number(rec, 5) == 1, buf)
+    frame_out::stream_meta(meta, ns.n5 == 1, buf)
 }
 
 // A connection id of any length that a byte holds; past 20 bytes it breaks the rule, and its bytes are not looked at.
@@ -109,29 +116,18 @@ fn cid_of(b: &[u8]) -> ConnectionId {
     ConnectionId { len: 255, bytes }
 }
 
-fn new_cid(rec: &[u8], buf: &mut [u8]) -> Wrote {
-    let id = cid_of(record::bytes(rec, 0));
+fn new_cid(ns: Numbers, id: &[u8], reset: &[u8], buf: &mut [u8]) -> Wrote {
     let mut token = [0u8; 16];
-    put_slice(&mut token, 0, record::bytes(rec, 1));
-    frame_out::new_connection_id(
-        record::number(rec, 1),
-        record::number(rec, 2),
-        id,
-        &token,
-        buf,
-    )
+    put_slice(&mut token, 0, reset);
+    frame_out::new_connection_id(ns.n1, ns.n2, cid_of(id), &token, buf)
 }
 
-fn datagram(rec: &[u8], buf: &mut [u8]) -> Wrote {
-    frame_out::datagram(record::number(rec, 1) == 1, record::bytes(rec, 0), buf)
-}
-
-fn ack_frequency(rec: &[u8], buf: &mut [u8]) -> Wrote {
+fn ack_frequency(ns: Numbers, buf: &mut [u8]) -> Wrote {
     let frame = AckFrequency {
-        sequence: record::number(rec, 1),
-        ack_eliciting_threshold: record::number(rec, 2),
-        request_max_ack_delay: record::number(rec, 3),
-        reordering_threshold: record::number(rec, 4),
+        sequence: ns.n1,
+        ack_eliciting_threshold: ns.n2,
+        request_max_ack_delay: ns.n3,
+        reordering_threshold: ns.n4,
     };
     frame_out::ack_frequency(frame, buf)
 }
@@ -145,12 +141,11 @@ fn type_of(b: &[u8]) -> TypeRead {
 }
 
 // By itself, or (1) through `close`.
-fn close(rec: &[u8], buf: &mut [u8]) -> Wrote {
-    let error_code = record::number(rec, 2);
-    let max_len = record::number(rec, 3) as usize;
-    let frame_type = type_of(record::bytes(rec, 0));
-    let reason = record::bytes(rec, 1);
-    if record::number(rec, 1) == 1 {
+fn close(ns: Numbers, ty: &[u8], reason: &[u8], buf: &mut [u8]) -> Wrote {
+    let error_code = ns.n2;
+    let max_len = ns.n3 as usize;
+    let frame_type = type_of(ty);
+    if ns.n1 == 1 {
         let kind = CloseKind::Connection {
             error_code,
             frame_type,
@@ -160,21 +155,20 @@ fn close(rec: &[u8], buf: &mut [u8]) -> Wrote {
     frame_out::connection_close(error_code, frame_type, reason, max_len, buf)
 }
 
-fn application_close(rec: &[u8], buf: &mut [u8]) -> Wrote {
-    let error_code = record::number(rec, 2);
-    let max_len = record::number(rec, 3) as usize;
-    let reason = record::bytes(rec, 0);
-    if record::number(rec, 1) == 1 {
+fn application_close(ns: Numbers, reason: &[u8], buf: &mut [u8]) -> Wrote {
+    let error_code = ns.n2;
+    let max_len = ns.n3 as usize;
+    if ns.n1 == 1 {
         return frame_out::close(CloseKind::Application { error_code }, reason, max_len, buf);
     }
     frame_out::application_close(error_code, reason, max_len, buf)
 }
 
-fn counts(rec: &[u8]) -> EcnCounts {
+fn counts(ns: Numbers) -> EcnCounts {
     EcnCounts {
-        ect0: record::number(rec, 1),
-        ect1: record::number(rec, 2),
-        ce: record::number(rec, 3),
+        ect0: ns.n1,
+        ect1: ns.n2,
+        ce: ns.n3,
     }
 }
 
@@ -208,9 +202,8 @@ fn ecn_of(b: &[u8]) -> AckEcn {
     })
 }
 
-fn ack(rec: &[u8], buf: &mut [u8]) -> Wrote {
-    let ecn = ecn_of(record::bytes(rec, 0));
+fn ack(delay: u64, counts: &[u8], ranges: &[u8], buf: &mut [u8]) -> Wrote {
     let mut list = [0u64; 16_384];
-    let n = numbers(record::bytes(rec, 1), &mut list);
-    ack_out::ack(record::number(rec, 1), &list[..n], ecn, buf)
+    let n = numbers(ranges, &mut list);
+    ack_out::ack(delay, &list[..n], ecn_of(counts), buf)
 }

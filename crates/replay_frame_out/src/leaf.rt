@@ -5,50 +5,54 @@ use coding::VarRead;
 use frame_out::FrameTypeRead;
 use frame_out::StreamIdRead;
 use records::line;
+use records::line::Answer;
+use records::record::Numbers;
 
-fn frame_type(at: usize, b: &[u8], out: &mut [u8], p: usize) -> usize {
+fn frame_type(at: usize, b: &[u8]) -> Answer {
     let FrameTypeRead::Type(ty, next) = frame_out::decode_type(b, at) else {
-        return line::no(out, p, Refusal::UnexpectedEnd);
+        return Answer::No(Refusal::UnexpectedEnd);
     };
-    line::ok_two(out, p, ty.0, next as u64)
+    Answer::Two(ty.0, next as u64)
 }
 
-fn stream_id(at: usize, b: &[u8], out: &mut [u8], p: usize) -> usize {
+fn stream_id(at: usize, b: &[u8]) -> Answer {
     let StreamIdRead::Id(id, next) = frame_out::decode_stream_id(b, at) else {
-        return line::no(out, p, Refusal::UnexpectedEnd);
+        return Answer::No(Refusal::UnexpectedEnd);
     };
-    line::ok_two(out, p, id.0, next as u64)
+    Answer::Two(id.0, next as u64)
 }
 
-fn error_code(at: usize, b: &[u8], out: &mut [u8], p: usize) -> usize {
+fn error_code(at: usize, b: &[u8]) -> Answer {
     let VarRead::Var(x, next) = frame_out::decode_error_code(b, at) else {
-        return line::no(out, p, Refusal::UnexpectedEnd);
+        return Answer::No(Refusal::UnexpectedEnd);
     };
-    line::ok_two(out, p, x.0, next as u64)
+    Answer::Two(x.0, next as u64)
 }
 
-pub(crate) fn fdec(what: u64, at: u64, b: &[u8], out: &mut [u8], p: usize) -> usize {
+pub(crate) fn fdec(ns: Numbers, b: &[u8]) -> Answer {
+    let what = ns.n0;
+    let at = ns.n1 as usize;
     match what {
-        0 => frame_type(at as usize, b, out, p),
-        1 => stream_id(at as usize, b, out, p),
-        2 => error_code(at as usize, b, out, p),
-        _ => line::bad(out, p),
+        0 => frame_type(at, b),
+        1 => stream_id(at, b),
+        2 => error_code(at, b),
+        _ => Answer::Bad,
     }
 }
 
-fn sized(said: Sized, out: &mut [u8], p: usize) -> usize {
+fn sized(said: Sized) -> Answer {
     match said {
-        Sized::Bytes(n) => line::ok(out, p, n as u64),
-        Sized::Refused(why) => line::no(out, p, why),
+        Sized::Bytes(n) => Answer::One(n as u64),
+        Sized::Refused(why) => Answer::No(why),
     }
 }
 
-pub(crate) fn fsize(what: u64, b: &[u8], out: &mut [u8], p: usize) -> usize {
+pub(crate) fn fsize(what: u64, b: &[u8]) -> Answer {
     match what {
-        0 => sized(frame_out::new_token_size(b), out, p),
-        1 => sized(frame_out::datagram_size(false, b), out, p),
-        2 => sized(frame_out::datagram_size(true, b), out, p),
-        _ => line::bad(out, p),
+        0 => sized(frame_out::new_token_size(b)),
+        1 => sized(frame_out::datagram_size(false, b)),
+        2 => sized(frame_out::datagram_size(true, b)),
+        _ => Answer::Bad,
     }
 }
 

@@ -13,76 +13,74 @@ use number::Space;
 use number::SpaceAnswer;
 use number::Tagged;
 use records::line;
+use records::line::Answer;
+use records::record::Numbers;
 use records::record::lay;
 use shared::CutNumber;
 use shared::FullNumber;
 
-fn made(said: CutMade, out: &mut [u8], p: usize) -> usize {
+fn made(said: CutMade) -> Answer {
     match said {
-        CutMade::Cut(c) => line::ok_two(out, p, number::len(c) as u64, c.1 as u64),
-        CutMade::Refused(why) => line::no(out, p, why),
+        CutMade::Cut(c) => Answer::Two(number::len(c) as u64, c.1 as u64),
+        CutMade::Refused(why) => Answer::No(why),
     }
 }
 
-fn full(said: FullRead, out: &mut [u8], p: usize) -> usize {
+fn full(said: FullRead) -> Answer {
     match said {
-        FullRead::Number(n) => line::ok(out, p, n.0),
-        FullRead::Refused(why) => line::no(out, p, why),
+        FullRead::Number(n) => Answer::One(n.0),
+        FullRead::Refused(why) => Answer::No(why),
     }
 }
 
-pub(crate) fn pnnew(n: u64, acked: u64, out: &mut [u8], p: usize) -> usize {
-    made(number::new(FullNumber(n), FullNumber(acked)), out, p)
+pub(crate) fn pnnew(n: u64, acked: u64) -> Answer {
+    made(number::new(FullNumber(n), FullNumber(acked)))
 }
 
-pub(crate) fn pnexp(k: u64, value: u64, expected: u64, out: &mut [u8], p: usize) -> usize {
+pub(crate) fn pnexp(k: u64, value: u64, expected: u64) -> Answer {
     if 0xffff_ffff < value {
-        return line::bad(out, p);
+        return Answer::Bad;
     }
     let c = CutNumber(k as usize, value as u32);
-    full(number::expand(c, expected), out, p)
+    full(number::expand(c, expected))
 }
 
-pub(crate) fn pndec(k: u64, b: &[u8], out: &mut [u8], p: usize) -> usize {
+pub(crate) fn pndec(k: u64, b: &[u8]) -> Answer {
     if b.len() != 4 {
-        return line::bad(out, p);
+        return Answer::Bad;
     }
     let bytes = [b[0], b[1], b[2], b[3]];
-    made(number::decode(k as usize, &bytes), out, p)
+    made(number::decode(k as usize, &bytes))
 }
 
-pub(crate) fn pnenc(
-    k: u64,
-    value: u64,
-    b: &[u8],
-    work: &mut [u8],
-    out: &mut [u8],
-    p: usize,
-) -> usize {
-    let n = lay(work, b);
+pub(crate) fn pntag(k: u64, value: u64) -> Answer {
     if 0xffff_ffff < value {
-        return line::bad(out, p);
-    }
-    let c = CutNumber(k as usize, value as u32);
-    let said = number::encode(c, &mut work[..n]);
-    line::wrote(out, p, said, part(work, Place { start: 0, len: n }))
-}
-
-pub(crate) fn pnlen(tag: u64, out: &mut [u8], p: usize) -> usize {
-    if 255 < tag {
-        return line::bad(out, p);
-    }
-    line::num(out, p, number::decode_len(tag as u8) as u64)
-}
-
-pub(crate) fn pntag(k: u64, value: u64, out: &mut [u8], p: usize) -> usize {
-    if 0xffff_ffff < value {
-        return line::bad(out, p);
+        return Answer::Bad;
     }
     match number::tag(CutNumber(k as usize, value as u32)) {
-        Tagged::Tag(t) => line::ok(out, p, t as u64),
-        Tagged::Refused(why) => line::no(out, p, why),
+        Tagged::Tag(t) => Answer::One(t as u64),
+        Tagged::Refused(why) => Answer::No(why),
     }
+}
+
+pub(crate) fn pnlen(tag: u64) -> Answer {
+    if 255 < tag {
+        return Answer::Bad;
+    }
+    Answer::Number(number::decode_len(tag as u8) as u64)
+}
+
+fn encode(k: u64, value: u64, buf: &mut [u8]) -> Answer {
+    if 0xffff_ffff < value {
+        return Answer::Bad;
+    }
+    line::written(number::encode(CutNumber(k as usize, value as u32), buf))
+}
+
+pub(crate) fn pnenc(ns: Numbers, b: &[u8], work: &mut [u8], out: &mut [u8], p: usize) -> usize {
+    let n = lay(work, b);
+    let said = encode(ns.n0, ns.n1, &mut work[..n]);
+    line::wrote(out, p, said, part(work, Place { start: 0, len: n }))
 }
 
 // A step of a run: its number, and two numbers.
@@ -92,38 +90,42 @@ struct Step {
     v: u32,
 }
 
-fn sent(said: SendAnswer, out: &mut [u8], p: usize) -> usize {
+fn sent(said: SendAnswer) -> Answer {
     match said {
         SendAnswer::Sent {
             number,
             cut,
             space: _,
-        } => {
-            let q = line::ok_two(out, p, number.0, cut.0 as u64);
-            line::and_num(out, q, cut.1 as u64)
-        }
-        SendAnswer::Refused { why, space: _ } => line::no(out, p, why),
+        } => Answer::Three(number.0, cut.0 as u64, cut.1 as u64),
+        SendAnswer::Refused { why, space: _ } => Answer::No(why),
     }
 }
 
-fn kept(said: SpaceAnswer, out: &mut [u8], p: usize) -> usize {
+fn kept(said: SpaceAnswer) -> Answer {
     match said {
-        SpaceAnswer::Done(_) => put_slice(out, p, b"ok"),
-        SpaceAnswer::Refused { why, space: _ } => line::no(out, p, why),
+        SpaceAnswer::Done(_) => Answer::Done,
+        SpaceAnswer::Refused { why, space: _ } => Answer::No(why),
     }
 }
 
 // What a step says.
-fn said(s: Space, step: Step, out: &mut [u8], p: usize) -> usize {
+fn said(s: Space, step: Step) -> Answer {
     let op = step.op;
     let n = step.n;
     match op {
-        0 => sent(s.send(), out, p),
-        1 => kept(s.acknowledge(FullNumber(n)), out, p),
-        2 => full(s.read(CutNumber(n as usize, step.v)), out, p),
-        3 => kept(s.accept(FullNumber(n)), out, p),
+        0 => sent(s.send()),
+        1 => kept(s.acknowledge(FullNumber(n))),
+        2 => full(s.read(CutNumber(n as usize, step.v))),
+        3 => kept(s.accept(FullNumber(n))),
+        _ => Answer::Bad,
+    }
+}
+
+fn put_said(s: Space, step: Step, out: &mut [u8], p: usize) -> usize {
+    let op = step.op;
+    match op {
         4..=6 => put_slice(out, p, b"set"),
-        _ => line::bad(out, p),
+        _ => line::say(out, p, said(s, step)),
     }
 }
 
@@ -234,7 +236,7 @@ pub(crate) fn ends(steps: &[u8], out: &mut [u8], p: usize) -> usize {
     let mut i = 0;
     while i < steps.len() {
         let step = read_step(steps, i);
-        q = said(s, step, out, q);
+        q = put_said(s, step, out, q);
         s = after(s, step);
         q = and_space(s, out, q);
         if steps.len() - i < 13 {

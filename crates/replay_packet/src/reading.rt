@@ -1,76 +1,68 @@
-// The operations of `packet`: header decode, split, the walk.
+// The operations of `packet`: header decode, split, the walk; and the dump's text.
 use crate::header;
+use coding::Place;
 use coding::PlaceRead;
 use coding::U32Read;
+use coding::Wrote;
+use coding::part;
 use coding::put_slice;
+use packet::Decoded;
 use packet::Found;
 use packet::PartialDecode;
 use packet::ProtectedHeader;
 use packet::Rest;
-use packet::Stepped;
 use records::line;
+use records::line::Answer;
 use records::record;
+use records::record::Numbers;
+ghost use Prim.Native.Nat.{_≤_};
+ghost use lib.ListN.{length};
 
-// More versions than the rule allows, and more steps than a datagram has packets.
-const MOST_VERSIONS: usize = 32;
-
+// More steps than a datagram has packets.
 const MOST_STEPS: usize = 70_000;
 
-// The first n of a list are the versions.
-struct Versions {
-    list: [u32; 32],
-    n: usize,
-}
-
-// Reads the versions, four bytes each, as many as there is room for.
-fn versions_in(bytes: &[u8]) -> Versions {
-    let mut list = [0u32; 32];
-    let mut n = 0;
+// Reads the versions, four bytes each, as many as the list has room for, and answers how many they are.
+fn versions_in(bytes: &[u8], list: &mut [u32]) -> usize
+    ensures { λ r. ⌜ r ≤ length (now (list .exit)) ⌝ }
+{
     let mut at = 0;
-    while n < MOST_VERSIONS {
+    let mut n = 0;
+    while n < list.len() {
         let U32Read::Num(version, next) = coding::get_u32(bytes, at) else {
-            return Versions { list, n };
+            return n;
         };
         list[n] = version;
         at = next;
         n += 1;
     }
-    Versions { list, n }
+    n
 }
 
-// The local CID's length, and grease.
-fn local(rec: &[u8]) -> usize {
-    record::number(rec, 0) as usize
-}
-
-fn grease(rec: &[u8]) -> bool {
-    record::number(rec, 1) == 1
-}
-
-// An operation on a datagram that takes the versions.
+// An operation on a datagram that takes the local CID's length, whether there is grease, and the versions; there is room for
+// more of these than the rule allows.
 pub(crate) fn asked(op: u8, rec: &[u8], out: &mut [u8], p: usize) -> usize {
-    let all = versions_in(record::bytes(rec, 0));
-    let list = all.list;
-    let n = all.n;
-    if MOST_VERSIONS < n {
-        return line::bad(out, p);
-    }
-    let versions = &list[..n];
+    let mut list = [0u32; 32];
+    let n = versions_in(record::bytes(rec, 0), &mut list);
+    read(
+        op,
+        record::numbers_of(rec),
+        record::bytes(rec, 1),
+        &list[..n],
+        out,
+        p,
+    )
+}
+
+fn read(op: u8, ns: Numbers, s: &[u8], versions: &[u32], out: &mut [u8], p: usize) -> usize {
     match op {
-        32 => split(rec, versions, out, p),
-        33 => walk(rec, versions, out, p),
-        _ => decode(rec, versions, out, p),
+        32 => split(ns, s, versions, out, p),
+        33 => walk(ns, s, versions, out, p),
+        _ => header::put(decode(ns, s, versions), out, p),
     }
 }
 
-fn decode(rec: &[u8], versions: &[u32], out: &mut [u8], p: usize) -> usize {
-    let plain = packet::decode(record::bytes(rec, 1), local(rec), versions, grease(rec));
-    let head = plain.header;
-    if let ProtectedHeader::Refused(why) = head {
-        return header::refused(plain, why, out, p);
-    }
-    let q = put_slice(out, p, b"ok");
-    header::and_header(plain, out, q)
+fn decode(ns: Numbers, s: &[u8], versions: &[u32]) -> Decoded {
+    packet::decode(s, ns.n0 as usize, versions, ns.n1 == 1)
 }
 
 fn and_rest(packet: PartialDecode, s: &[u8], out: &mut [u8], p: usize) -> usize {
@@ -88,46 +80,41 @@ fn and_parts(packet: PartialDecode, s: &[u8], out: &mut [u8], p: usize) -> usize
     line::and_hex(out, q, packet.token(packet.data(s)))
 }
 
-fn split(rec: &[u8], versions: &[u32], out: &mut [u8], p: usize) -> usize {
-    let s = record::bytes(rec, 1);
-    let packet = packet::split(s, local(rec), versions, grease(rec));
+fn split(ns: Numbers, s: &[u8], versions: &[u32], out: &mut [u8], p: usize) -> usize {
+    let packet = packet::split(s, ns.n0 as usize, versions, ns.n1 == 1);
     let plain = packet.plain_header;
     let head = plain.header;
-    if let ProtectedHeader::Refused(why) = head {
-        return header::refused(plain, why, out, p);
+    let q = header::put(plain, out, p);
+    if let ProtectedHeader::Refused(_) = head {
+        return q;
     }
-    let q = put_slice(out, p, b"ok");
-    let q = header::and_header(plain, out, q);
     and_parts(packet, s, out, q)
 }
 
-// How a walk ends.
-fn last_step(stepped: Stepped, s: &[u8], out: &mut [u8], p: usize) -> usize {
+// A step of the walk: a packet with its kind, number offset and the place past it; or the end, with a refusal's number or 0.
+enum Met {
+    Packet(Place, Place, usize),
+    Last(usize, u64),
+}
+
+// A refusal's number, or 0.
+fn number(header: ProtectedHeader) -> u64 {
+    let ProtectedHeader::Refused(why) = header else {
+        return 0;
+    };
+    why.number() as u64
+}
+
+fn step(ns: Numbers, s: &[u8], at: usize, versions: &[u32]) -> Met {
+    let stepped = packet::step(s, at, ns.n0 as usize, versions, ns.n1 == 1);
     let found = stepped.found;
     let plain = stepped.plain_header;
     let head = plain.header;
-    let Found::Refused(start) = found else {
-        let q = put_slice(out, p, b"end");
-        return line::and_num(out, q, s.len() as u64);
-    };
-    let ProtectedHeader::Refused(why) = head else {
-        return line::bad(out, p);
-    };
-    let n = why.number();
-    let q = put_slice(out, p, b"refused");
-    let q = line::and_num(out, q, start as u64);
-    line::and_num(out, q, n as u64)
-}
-
-// A packet of the walk.
-fn met(start: usize, len: usize, stepped: Stepped, out: &mut [u8], p: usize) -> usize {
-    let plain = stepped.plain_header;
-    let head = plain.header;
-    let q = line::num(out, p, start as u64);
-    let q = line::and_num(out, q, len as u64);
-    let q = header::and_kind(head, out, q);
-    let q = line::and_num(out, q, plain.number_offset as u64);
-    put_slice(out, q, b"; ")
+    match found {
+        Found::Packet(place) => Met::Packet(place, header::kind(head), plain.number_offset),
+        Found::Refused(start) => Met::Last(start, number(head)),
+        Found::End => Met::Last(s.len(), 0),
+    }
 }
 
 // The place past n bytes from a place on.
@@ -138,20 +125,80 @@ fn past(s: &[u8], at: usize, n: usize) -> usize {
     next
 }
 
-fn walk(rec: &[u8], versions: &[u32], out: &mut [u8], p: usize) -> usize {
-    let s = record::bytes(rec, 1);
+// How a walk ends: at a place, with a refusal's number, or 0.
+fn put_last(at: usize, number: u64, out: &mut [u8], p: usize) -> usize {
+    let word = if number == 0 {
+        Place { start: 0, len: 3 }
+    } else {
+        Place { start: 3, len: 7 }
+    };
+    let q = put_slice(out, p, part(b"endrefused", word));
+    let q = line::and_num(out, q, at as u64);
+    if number == 0 {
+        return q;
+    }
+    line::and_num(out, q, number)
+}
+
+// A packet of the walk.
+fn put_packet(place: Place, kind: Place, offset: usize, out: &mut [u8], p: usize) -> usize {
+    let q = line::num(out, p, place.start as u64);
+    let q = line::and_num(out, q, place.len as u64);
+    let q = header::and_kind(kind, out, q);
+    let q = line::and_num(out, q, offset as u64);
+    put_slice(out, q, b"; ")
+}
+
+fn walk(ns: Numbers, s: &[u8], versions: &[u32], out: &mut [u8], p: usize) -> usize {
     let mut q = p;
     let mut at = 0;
     let mut i = 0;
     while i < MOST_STEPS {
-        let stepped = packet::step(s, at, local(rec), versions, grease(rec));
-        let found = stepped.found;
-        let Found::Packet(place) = found else {
-            return last_step(stepped, s, out, q);
-        };
-        q = met(place.start, place.len, stepped, out, q);
-        at = past(s, place.start, place.len);
+        let m = step(ns, s, at, versions);
+        match m {
+            Met::Packet(place, kind, offset) => {
+                q = put_packet(place, kind, offset, out, q);
+                at = past(s, place.start, place.len);
+            }
+            Met::Last(end, number) => {
+                return put_last(end, number, out, q);
+            }
+        }
         i += 1;
     }
     q
+}
+
+// A character of a text of lines, where they are to be one.
+fn in_line(c: u8) -> u8 {
+    if c == b'\n' { b';' } else { c }
+}
+
+// The first n characters of a text as one line.
+fn one_line(text: &mut [u8], n: usize) -> usize {
+    let mut i = 0;
+    while i < text.len() {
+        if n <= i {
+            return n;
+        }
+        text[i] = in_line(text[i]);
+        i += 1;
+    }
+    n
+}
+
+// The dump of a datagram, from byte 0 of text on.
+fn dump_in(s: &[u8], text: &mut [u8]) -> usize {
+    match dump_text::dump(s, text) {
+        Wrote::Len(n) => one_line(text, n),
+        Wrote::Refused(why) => line::say(text, 0, Answer::No(why)),
+    }
+}
+
+pub(crate) fn dump(rec: &[u8], out: &mut [u8], p: usize) -> usize {
+    if out.len() < p {
+        return p;
+    }
+    let n = dump_in(record::bytes(rec, 0), &mut out[p..]);
+    past(out, p, n)
 }

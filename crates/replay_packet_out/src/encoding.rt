@@ -5,10 +5,11 @@ use coding::put_slice;
 use packet::LongType;
 use packet_out::Encoded;
 use packet_out::Header;
-use packet_out::PartialEncode;
 use protect::NumberLen;
 use records::line;
+use records::line::Answer;
 use records::record;
+use records::record::Numbers;
 use shared::ConnectionId;
 use shared::CutNumber;
 ghost use Prim.Native.Nat.{_≤_};
@@ -22,51 +23,39 @@ fn byte(n: u64) -> u8 {
     (n % 0x100) as u8
 }
 
-// The cut number whose length is number i of a record, and its value the next.
-fn cut(rec: &[u8], k: u8, value: u8) -> CutNumber {
-    CutNumber(
-        record::number(rec, k) as usize,
-        word(record::number(rec, value)),
-    )
-}
-
 // Kinds are initial, 0rtt, handshake, retry, short, vneg.
-fn header(rec: &[u8]) -> Header {
-    let kind = record::number(rec, 0);
-    let first = record::number(rec, 1);
-    let version = word(first);
+fn header(ns: Numbers) -> Header {
+    let kind = ns.n0;
+    let version = word(ns.n1);
+    let number = CutNumber(ns.n2 as usize, word(ns.n3));
     match kind {
-        0 => Header::Initial {
-            number: cut(rec, 2, 3),
-            version,
-        },
+        0 => Header::Initial { number, version },
         1 => Header::Long {
             ty: LongType::ZeroRtt,
-            number: cut(rec, 2, 3),
+            number,
             version,
         },
         2 => Header::Long {
             ty: LongType::Handshake,
-            number: cut(rec, 2, 3),
+            number,
             version,
         },
         3 => Header::Retry { version },
         4 => Header::Short {
-            spin: first == 1,
-            key_phase: record::number(rec, 2) == 1,
-            number: cut(rec, 3, 4),
+            spin: ns.n1 == 1,
+            key_phase: ns.n2 == 1,
+            number: CutNumber(ns.n3 as usize, word(ns.n4)),
         },
         _ => Header::VersionNegotiate {
-            random: byte(first),
+            random: byte(ns.n1),
         },
     }
 }
 
-// How many parts the header has: an Initial has a token, a short header one connection id.
-pub(crate) fn parts(rec: &[u8]) -> u8
+// How many parts the header of a kind has: an Initial has a token, a short header one connection id.
+pub(crate) fn parts(kind: u64) -> u8
     ensures { λ r. ⌜ r ≤ 3 ⌝ }
 {
-    let kind = record::number(rec, 0);
     match kind {
         0 => 3,
         4 => 1,
@@ -86,22 +75,42 @@ fn cid(bytes: &[u8]) -> ConnectionId {
     }
 }
 
-fn dst(rec: &[u8]) -> ConnectionId {
-    cid(record::bytes(rec, 0))
-}
-
-fn src(rec: &[u8]) -> ConnectionId {
-    if parts(rec) < 2 {
+fn src(kind: u64, rec: &[u8]) -> ConnectionId {
+    if parts(kind) < 2 {
         return ConnectionId::empty();
     }
     cid(record::bytes(rec, 1))
 }
 
-fn token(rec: &[u8]) -> &[u8] {
-    if parts(rec) < 3 {
+fn token(kind: u64, rec: &[u8]) -> &[u8] {
+    if parts(kind) < 3 {
         return &rec[..0];
     }
     record::bytes(rec, 2)
+}
+
+// A record's header into a lent buffer.
+pub(crate) fn encode(ns: Numbers, rec: &[u8], buf: &mut [u8]) -> Encoded {
+    let dst = cid(record::bytes(rec, 0));
+    packet_out::encode(header(ns), dst, src(ns.n0, rec), token(ns.n0, rec), buf)
+}
+
+fn encoded(said: Encoded) -> Answer {
+    match said {
+        Encoded::Partial(partial) => Answer::One(partial.header_len as u64),
+        Encoded::Refused(why) => Answer::No(why),
+    }
+}
+
+// The number's length, `-` for none, and whether there is a Length.
+fn and_partial(said: Encoded, out: &mut [u8], p: usize) -> usize {
+    let Encoded::Partial(partial) = said else {
+        return p;
+    };
+    let number = partial.number;
+    let has_length = if partial.has_length { 1 } else { 0 };
+    let q = and_number(number, out, p);
+    line::and_num(out, q, has_length)
 }
 
 fn and_number(number: NumberLen, out: &mut [u8], p: usize) -> usize {
@@ -111,31 +120,16 @@ fn and_number(number: NumberLen, out: &mut [u8], p: usize) -> usize {
     }
 }
 
-fn and_partial(partial: PartialEncode, out: &mut [u8], p: usize) -> usize {
-    let number = partial.number;
-    let has_length = if partial.has_length { 1 } else { 0 };
-    let q = and_number(number, out, p);
-    line::and_num(out, q, has_length)
+fn put_encoded(said: Encoded, buf: &[u8], out: &mut [u8], p: usize) -> usize {
+    let q = line::say(out, p, encoded(said));
+    let q = and_partial(said, out, q);
+    line::and_hex(out, q, buf)
 }
 
-// A record's header into a lent buffer.
-pub(crate) fn encode(rec: &[u8], buf: &mut [u8]) -> Encoded {
-    packet_out::encode(header(rec), dst(rec), src(rec), token(rec), buf)
-}
-
+// The lent buffer is the record's last part, laid into work.
 pub(crate) fn henc(rec: &[u8], work: &mut [u8], out: &mut [u8], p: usize) -> usize {
-    let n = record::lay(work, record::bytes(rec, parts(rec)));
-    let said = encode(rec, &mut work[..n]);
-    let b = part(work, Place { start: 0, len: n });
-    match said {
-        Encoded::Partial(partial) => {
-            let q = line::ok(out, p, partial.header_len as u64);
-            let q = and_partial(partial, out, q);
-            line::and_hex(out, q, b)
-        }
-        Encoded::Refused(why) => {
-            let q = line::no(out, p, why);
-            line::and_hex(out, q, b)
-        }
-    }
+    let ns = record::numbers_of(rec);
+    let n = record::lay(work, record::bytes(rec, parts(ns.n0)));
+    let said = encode(ns, rec, &mut work[..n]);
+    put_encoded(said, part(work, Place { start: 0, len: n }), out, p)
 }

@@ -1,7 +1,6 @@
 // The Length step, the mask step, and all from a header to a protected packet. What encrypts is a XOR with one byte.
 use crate::encoding;
 use coding::Place;
-use coding::Refusal;
 use coding::U8Read;
 use coding::part;
 use coding::put_slice;
@@ -11,77 +10,55 @@ use packet_out::PartialEncode;
 use protect::Masked;
 use protect::NumberLen;
 use records::line;
+use records::line::Answer;
 use records::record;
 ghost use Rattle.records.specs.Records.{Counts};
 
-// A step is done, or a refusal.
-enum Sealed {
-    Done,
-    Refused(Refusal),
-}
-
-fn length_set(said: LengthSet) -> Sealed {
-    match said {
-        LengthSet::Done => Sealed::Done,
-        LengthSet::Refused(why) => Sealed::Refused(why),
-    }
-}
-
-fn masked(said: Masked) -> Sealed {
-    match said {
-        Masked::Done => Sealed::Done,
-        Masked::Refused(why) => Sealed::Refused(why),
-    }
-}
-
-fn put_said(said: Sealed, out: &mut [u8], p: usize) -> usize {
-    match said {
-        Sealed::Done => put_slice(out, p, b"ok"),
-        Sealed::Refused(why) => line::no(out, p, why),
-    }
-}
-
-// What a step says, and the first n bytes of work.
-fn put_sealed(said: Sealed, work: &[u8], n: usize, out: &mut [u8], p: usize) -> usize {
-    let q = put_said(said, out, p);
-    line::and_hex(out, q, part(work, Place { start: 0, len: n }))
-}
-
 // What a record says of a header: its length, its number's, where it has one, and whether it has a Length.
 fn partial(rec: &[u8]) -> PartialEncode {
-    let has_number = record::number(rec, 1) == 1;
-    let k = record::number(rec, 2) as usize;
+    let ns = record::numbers_of(rec);
     PartialEncode {
-        header_len: record::number(rec, 0) as usize,
-        number: if has_number {
-            NumberLen::Bytes(k)
+        header_len: ns.n0 as usize,
+        number: if ns.n1 == 1 {
+            NumberLen::Bytes(ns.n2 as usize)
         } else {
             NumberLen::Nothing
         },
-        has_length: record::number(rec, 3) == 1,
+        has_length: ns.n3 == 1,
     }
 }
 
-fn set_length(to: PartialEncode, packet: &mut [u8]) -> Sealed {
+fn set_length(to: PartialEncode, packet: &mut [u8]) -> Answer {
     let number = to.number;
-    length_set(packet_out::set_length(to.header_len, number, to.has_length, packet))
+    match packet_out::set_length(to.header_len, number, to.has_length, packet) {
+        LengthSet::Done => Answer::Done,
+        LengthSet::Refused(why) => Answer::No(why),
+    }
 }
 
-fn mask(to: PartialEncode, packet: &mut [u8], with: [u8; 5]) -> Sealed {
+fn mask(to: PartialEncode, packet: &mut [u8], with: [u8; 5]) -> Answer {
     let number = to.number;
-    masked(protect::mask(to.header_len, number, to.has_length, packet, with))
+    match protect::mask(to.header_len, number, to.has_length, packet, with) {
+        Masked::Done => Answer::Done,
+        Masked::Refused(why) => Answer::No(why),
+    }
 }
 
-pub(crate) fn hlen(rec: &[u8], work: &mut [u8], out: &mut [u8], p: usize) -> usize {
-    let n = record::lay(work, record::bytes(rec, 0));
-    let said = set_length(partial(rec), &mut work[..n]);
-    put_sealed(said, work, n, out, p)
+// The Length step (hlen), or the mask step (hmask), whose mask is the record's first part.
+fn step(op: u8, rec: &[u8], packet: &mut [u8]) -> Answer {
+    let to = partial(rec);
+    if op == 37 {
+        return set_length(to, packet);
+    }
+    mask(to, packet, mask_of(record::bytes(rec, 0)))
 }
 
-pub(crate) fn hmask(rec: &[u8], work: &mut [u8], out: &mut [u8], p: usize) -> usize {
-    let n = record::lay(work, record::bytes(rec, 1));
-    let said = mask(partial(rec), &mut work[..n], mask_of(record::bytes(rec, 0)));
-    put_sealed(said, work, n, out, p)
+// A step over a packet, the record's last part, laid into work.
+pub(crate) fn lent(op: u8, rec: &[u8], work: &mut [u8], out: &mut [u8], p: usize) -> usize {
+    let last = if op == 37 { 0 } else { 1 };
+    let n = record::lay(work, record::bytes(rec, last));
+    let said = step(op, rec, &mut work[..n]);
+    line::wrote(out, p, said, part(work, Place { start: 0, len: n }))
 }
 
 // Byte i, or 0.
@@ -109,11 +86,11 @@ fn encrypt(number: NumberLen, packet: &mut [u8], header_len: usize, with: u8) {
 }
 
 // The steps after the header and the payload are written.
-fn seal(to: PartialEncode, packet: &mut [u8], xor: u8, with: [u8; 5]) -> Sealed {
+fn seal(to: PartialEncode, packet: &mut [u8], xor: u8, with: [u8; 5]) -> Answer {
     let number = to.number;
-    let length = set_length(to, packet);
-    let Sealed::Done = length else {
-        return length;
+    let said = set_length(to, packet);
+    let Answer::Done = said else {
+        return said;
     };
     encrypt(number, packet, to.header_len, xor);
     mask(to, packet, with)
@@ -130,28 +107,28 @@ fn put_payload(work: &mut [u8], at: usize, payload: &[u8]) -> usize
     n
 }
 
-fn put_whole(said: Sealed, work: &[u8], n: usize, out: &mut [u8], p: usize) -> usize {
-    let Sealed::Refused(why) = said else {
-        return put_sealed(said, work, n, out, p);
+// What all steps say; with the packet, where none refused.
+fn put_whole(said: Answer, packet: &[u8], out: &mut [u8], p: usize) -> usize {
+    let Answer::Done = said else {
+        return line::say(out, p, said);
     };
-    line::no(out, p, why)
+    line::wrote(out, p, said, packet)
 }
 
 // The packet of a header that was written into work.
 fn seal_whole(to: PartialEncode, rec: &[u8], work: &mut [u8], out: &mut [u8], p: usize) -> usize {
-    let first = encoding::parts(rec);
+    let first = encoding::parts(record::numbers_of(rec).n0);
     let xor = byte(record::bytes(rec, first + 1), 0);
     let with = mask_of(record::bytes(rec, first));
     let n = put_payload(work, to.header_len, record::bytes(rec, first + 2));
     let said = seal(to, &mut work[..n], xor, with);
-    put_whole(said, work, n, out, p)
+    put_whole(said, part(work, Place { start: 0, len: n }), out, p)
 }
 
 // A header, its payload behind it, and the steps over both.
 pub(crate) fn whole(rec: &[u8], work: &mut [u8], out: &mut [u8], p: usize) -> usize {
-    let said = encoding::encode(rec, work);
-    match said {
+    match encoding::encode(record::numbers_of(rec), rec, work) {
         Encoded::Partial(to) => seal_whole(to, rec, work, out, p),
-        Encoded::Refused(why) => line::no(out, p, why),
+        Encoded::Refused(why) => line::say(out, p, Answer::No(why)),
     }
 }

@@ -1,3 +1,2 @@
--- `Holds` has the one proof of the table; `Onces` that the public function has only one answer.
+-- `Holds` has the one proof of the table.
 pub mod Holds
-pub mod Onces

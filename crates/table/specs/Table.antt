@@ -1,7 +1,7 @@
 -- The worked examples marked P in document 01, "Bench examples", as one table. A row is a question and the reply that the
 -- document gives; `answer` replies to a question by the definitions; the one statement is that `answers table` is `replies table`.
--- To add a row: write it into `table`, and the number of rows into src/lib.rt. For a new kind of question, first a constructor
--- of `Question` and a clause of `answer` by the definition in question, whose name goes on the `unfolding` line of proofs/Holds.antt.
+-- To add a row: write it into `table`. For a new kind of question, first a constructor of `Question` and a clause of `answer` by
+-- the definition in question, whose name goes on the `unfolding` line of proofs/Holds.antt.
 use Prim.Native.Nat.{ℕ, _+_, _^_}
 use mathlib.Core.List.{List, [], _∷_}
 use mathlib.Core.Bool.{Bool, true, false}

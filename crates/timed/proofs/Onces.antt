@@ -55,7 +55,7 @@ guobbarel-timed-crypto-once : Once {B = WriteAnswer × List ℕ} guobbarel-timed
 unfolding Once
 guobbarel-timed-crypto-once κs a x y s t p q = one-write _ _ x y _ _ p q
 
-guobbarel-timed-new-connection-id-once : Once {B = WriteAnswer × List ℕ} guobbarel-timed-new-connection-id.ended guobbarel-timed-new-connection-id-reads.Post (λ κs x s. (x, now (s .1 .1 .1 .1 .0)))
+guobbarel-timed-new-connection-id-once : Once {B = WriteAnswer × List ℕ} guobbarel-timed-new-connection-id.ended guobbarel-timed-new-connection-id-reads.Post (λ κs x s. (x, now (s .1 .1 .1 .1 .1 .0)))
 unfolding Once
 guobbarel-timed-new-connection-id-once κs a x y s t p q = one-write _ _ x y _ _ p q
 

@@ -1,7 +1,7 @@
 -- What the functions that bench/ times answer: the records over the definitions of the crates below.
-use Prim.Native.Nat.{ℕ, zero, suc, _+_}
+use Prim.Native.Nat.{ℕ, zero, suc, _+_, _*_, _^_}
 use mathlib.Core.Path.{_≡_}
-use mathlib.Core.List.{List}
+use mathlib.Core.List.{List, [], _∷_, map}
 use lib.ListN.{length}
 use lib.Dec.{ltb}
 use lib.Bits.{bitXor}
@@ -9,36 +9,43 @@ use Rattle.coding.specs.Words.{if_then_else_, andThen, Answer, no, ok}
 use Rattle.coding.specs.Varint.{varAt}
 use Rattle.coding.specs.Writing.{inRoom, lengthOf, intoBuffer}
 use Rattle.shared.specs.declared.kinds.CutNumber.{CutNumber}
-use Rattle.timed.specs.declared.VarsAnswer.{VarsAnswer}
-use Rattle.timed.specs.declared.NumberSaid.{NumberSaid}
+use Rattle.number.specs.Cutting.{cut, cutMade}
+use Rattle.number.specs.Expanding.{expanded}
+use Rattle.timed.specs.declared.GatheredAnswer.{GatheredAnswer}
 use Rattle.timed.specs.declared.WriteAnswer.{WriteAnswer}
 
--- ---- integers one after the other
+-- ---- answers one after the other
 
-abbrev pub vars : ℕ → ℕ → ℕ → VarsAnswer
-vars k count mixed = record { refusal = k; count = count; mixed = mixed }
+-- how many say a number and the exclusive or of all, behind those that are counted: up to the first refusal
+unfoldable pub gatheredFrom : List (Answer ℕ) → ℕ → ℕ → GatheredAnswer
+gatheredFrom [] count mixed = record { refusal = 0; count = count; mixed = mixed }
+gatheredFrom (no k ∷ answers) count mixed = record { refusal = k; count = count; mixed = mixed }
+gatheredFrom (ok v ∷ answers) count mixed = gatheredFrom answers (count + 1) (bitXor mixed v)
 
--- at most n integers from a place on, behind those that are counted: a cut one is 10
-unfoldable pub varsFrom : ℕ → List ℕ → ℕ → ℕ → ℕ → VarsAnswer
-varsFrom zero s at count mixed = vars 0 count mixed
-varsFrom (suc n) s at count mixed =
-    if ltb at (length s) then
-    andThen (varAt s at) (vars 10 count mixed) (λ v next. varsFrom n s next (count + 1) (bitXor mixed v))
-    else vars 0 count mixed
+unfoldable pub gathered : List (Answer ℕ) → GatheredAnswer
+gathered answers = gatheredFrom answers 0 0
+
+-- at most n integers from a place on: a cut one is 10
+unfoldable pub varsFrom : ℕ → List ℕ → ℕ → List (Answer ℕ)
+varsFrom zero s at = []
+varsFrom (suc n) s at = if ltb at (length s) then andThen (varAt s at) (no 10 ∷ []) (λ v next. ok v ∷ varsFrom n s next) else []
 
 -- all of a slice: each integer has a byte or more
-unfoldable pub varsOf : List ℕ → VarsAnswer
-varsOf s = varsFrom (length s) s 0 0 0
+unfoldable pub varsOf : List ℕ → List (Answer ℕ)
+varsOf s = varsFrom (length s) s 0
 
--- ---- packet numbers, cut and read back
+-- a cut number as one: its value in four bytes, and its length above them
+unfoldable pub cutSaid : Answer CutNumber → Answer ℕ
+cutSaid (no k) = no k
+cutSaid (ok c) = ok (c .1 + c .0 * 2 ^ 32)
 
-unfoldable pub cutSaid : Answer CutNumber → NumberSaid
-cutSaid (no k) = record { refusal = k; len = 0; number = 0 }
-cutSaid (ok c) = record { refusal = 0; len = c .0; number = c .1 }
+-- packet numbers, each cut by the largest acknowledged
+abbrev pub cutsOf : ℕ → List ℕ → List (Answer ℕ)
+cutsOf acked ns = map (λ n. cutSaid (cutMade n acked)) ns
 
-unfoldable pub fullSaid : Answer ℕ → NumberSaid
-fullSaid (no k) = record { refusal = k; len = 0; number = 0 }
-fullSaid (ok n) = record { refusal = 0; len = 0; number = n }
+-- cut ones of k bytes, each read back by the expected one
+abbrev pub fullsOf : ℕ → ℕ → List ℕ → List (Answer ℕ)
+fullsOf k expected vs = map (λ v. expanded (cut k v) expected) vs
 
 -- ---- writers
 

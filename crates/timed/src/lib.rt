@@ -20,30 +20,19 @@ ghost use mathlib.Core.Option.{none};
 ghost use lib.ListN.{length};
 ghost use lib.Dec.{eqb};
 ghost use Rattle.coding.specs.Said.{wroteOf};
-ghost use Rattle.shared.specs.Cid.{cidNew};
-ghost use Rattle.number.specs.Cutting.{cut, cutMade};
-ghost use Rattle.number.specs.Expanding.{expanded};
 ghost use Rattle.frame_write.specs.Writing.{number};
 ghost use Rattle.frame_out.specs.Frames.{metaOut, cryptoOut, resetStreamOut, newCidOut};
 ghost use Rattle.frame_out.specs.Closes.{connection, closeOut};
 ghost use Rattle.ack_out.specs.Acks.{ackOut};
 ghost use Rattle.dump_text.specs.Dump.{dumpOut};
-ghost use Rattle.timed.specs.Timed.{varsOf, cutSaid, fullSaid, written, flagged, Writes};
+ghost use Rattle.timed.specs.Timed.{gathered, varsOf, cutsOf, fullsOf, written, flagged, Writes};
 
-// The integers of a slice: how many, and the exclusive or of all.
+// What came before the end or a refusal: how many, and the exclusive or of all.
 #[repr(C)]
-pub struct VarsAnswer {
+pub struct GatheredAnswer {
     pub refusal: u8,
     pub count: usize,
     pub mixed: u64,
-}
-
-// A packet number: its bytes where it is cut, else 0, and the number; 0 beside a refusal.
-#[repr(C)]
-pub struct NumberSaid {
-    pub refusal: u8,
-    pub len: usize,
-    pub number: u64,
 }
 
 // The length of what was written, 0 beside a refusal.
@@ -53,17 +42,17 @@ pub struct WriteAnswer {
     pub len: usize,
 }
 
-// Reads integers from byte 0 on until the slice ends; where one is cut, 10 and what came before it.
+// Reads integers from byte 0 on until the slice ends; where one is cut, 10.
 #[no_mangle]
-pub extern "C" fn guobbarel_timed_read_vars(bytes: &[u8]) -> VarsAnswer
-    ensures { λ r. ⌜ r ≡ varsOf (now (bytes .entry)) ⌝ }
+pub extern "C" fn guobbarel_timed_read_vars(bytes: &[u8]) -> GatheredAnswer
+    ensures { λ r. ⌜ r ≡ gathered (varsOf (now (bytes .entry))) ⌝ }
 {
     let mut at = 0;
     let mut count = 0;
     let mut mixed = 0;
     while at < bytes.len() {
         let VarRead::Var(v, next) = coding::get_var(bytes, at) else {
-            return VarsAnswer {
+            return GatheredAnswer {
                 refusal: 10,
                 count,
                 mixed,
@@ -73,42 +62,68 @@ pub extern "C" fn guobbarel_timed_read_vars(bytes: &[u8]) -> VarsAnswer
         count += 1;
         at = next;
     }
-    VarsAnswer {
+    GatheredAnswer {
         refusal: 0,
         count,
         mixed,
     }
 }
 
-fn said(refusal: u8, len: usize, number: u64) -> NumberSaid
-    ensures { λ r. ⌜ r ≡ record { refusal = refusal; len = len; number = number } ⌝ }
+// Numbers to be sent, each cut by the largest acknowledged; a cut one counts by its value, with its length above its four bytes.
+#[no_mangle]
+pub extern "C" fn guobbarel_timed_cut(numbers: &[u64], acked: u64) -> GatheredAnswer
+    ensures { λ r. ⌜ r ≡ gathered (cutsOf acked (now (numbers .entry))) ⌝ }
 {
-    NumberSaid {
-        refusal,
-        len,
-        number,
+    let mut count = 0;
+    let mut mixed = 0;
+    while count < numbers.len() {
+        match number::new(FullNumber(numbers[count]), FullNumber(acked)) {
+            CutMade::Cut(c) => {
+                mixed = mixed ^ (c.1 as u64 + c.0 as u64 * 0x1_0000_0000);
+            }
+            CutMade::Refused(why) => {
+                return GatheredAnswer {
+                    refusal: why.number(),
+                    count,
+                    mixed,
+                };
+            }
+        }
+        count += 1;
+    }
+    GatheredAnswer {
+        refusal: 0,
+        count,
+        mixed,
     }
 }
 
-// A number to be sent, cut by the largest acknowledged.
+// The full number of each cut one of `len` bytes, by the expected one; where one is refused, 14.
 #[no_mangle]
-pub extern "C" fn guobbarel_timed_cut(number: u64, acked: u64) -> NumberSaid
-    ensures { λ r. ⌜ r ≡ cutSaid (cutMade number acked) ⌝ }
+pub extern "C" fn guobbarel_timed_expand(
+    values: &[u32],
+    len: usize,
+    expected: u64,
+) -> GatheredAnswer
+    ensures { λ r. ⌜ r ≡ gathered (fullsOf len expected (now (values .entry))) ⌝ }
 {
-    match number::new(FullNumber(number), FullNumber(acked)) {
-        CutMade::Cut(c) => said(0, c.0, c.1 as u64),
-        CutMade::Refused(why) => said(why.number(), 0, 0),
+    let mut count = 0;
+    let mut mixed = 0;
+    while count < values.len() {
+        let FullRead::Number(n) = number::expand(CutNumber(len, values[count]), expected) else {
+            return GatheredAnswer {
+                refusal: 14,
+                count,
+                mixed,
+            };
+        };
+        mixed = mixed ^ n.0;
+        count += 1;
     }
-}
-
-// The full number of a cut one, by the expected one.
-#[no_mangle]
-pub extern "C" fn guobbarel_timed_expand(len: usize, value: u32, expected: u64) -> NumberSaid
-    ensures { λ r. ⌜ r ≡ fullSaid (expanded (cut len value) expected) ⌝ }
-{
-    match number::expand(CutNumber(len, value), expected) {
-        FullRead::Number(n) => said(0, 0, n.0),
-        FullRead::Refused(why) => said(why.number(), 0, 0),
+    GatheredAnswer {
+        refusal: 0,
+        count,
+        mixed,
     }
 }
 
@@ -176,19 +191,22 @@ pub extern "C" fn guobbarel_timed_crypto(offset: u64, data: &[u8], out: &mut [u8
     written(frame_out::crypto(offset, data, out))
 }
 
-// A connection id longer than 20 bytes counts as an empty one, and both are 14.
+// The connection id is the first id_len bytes.
 #[no_mangle]
 pub extern "C" fn guobbarel_timed_new_connection_id(
     sequence: u64,
     retire_prior_to: u64,
-    id: &[u8],
+    id: &[u8; 20],
+    id_len: u8,
     reset_token: &[u8; 16],
     out: &mut [u8],
 ) -> WriteAnswer
-    ensures { λ r. ⌜ Writes (newCidOut sequence «retire_prior_to» (cidNew (now (id .entry)) .1) (now («reset_token» .entry))) (now (out .entry)) r (now (out .exit)) ⌝ }
+    ensures { λ r. ⌜ Writes (newCidOut sequence «retire_prior_to» (record { len = «id_len»; bytes = now (id .entry) }) (now («reset_token» .entry))) (now (out .entry)) r (now (out .exit)) ⌝ }
 {
-    let read = ConnectionId::new(id);
-    let cid = read.cid;
+    let cid = ConnectionId {
+        len: id_len,
+        bytes: *id,
+    };
     written(frame_out::new_connection_id(sequence, retire_prior_to, cid, reset_token, out))
 }
 

@@ -23,7 +23,7 @@ const fn op(code: u8, name: &'static str, fields: &'static str, run: Run) -> Op 
     Op { code, name, fields, run }
 }
 
-pub const OPS: [Op; 42] = [
+pub const OPS: [Op; 43] = [
     // varint.rs, coding.rs
     op(1, "vread", "nb", leaf::vread),
     op(2, "vfrom", "n", leaf::vfrom),
@@ -48,6 +48,7 @@ pub const OPS: [Op; 42] = [
     op(32, "split", "nnvb", packet::probe::split),
     op(33, "walk", "nnvb", packet::probe::walk),
     op(34, "finish", "knbb", packet::probe::finish),
+    op(35, "dump", "b", packet::probe::dump),
     op(36, "henc", "Kb", packet::probe::henc),
     op(37, "hlen", "nnnnb", packet::probe::hlen),
     op(38, "whole", "Kbbb", packet::probe::whole),

@@ -1,10 +1,13 @@
-//! The words of a line: numbers decimal, bytes hex, `-` for none.
+//! The words of a line: numbers decimal, bytes hex, `-` for none; `HEX*N` is HEX N times, `+` joins bytes.
 use std::iter::Peekable;
 use std::str::SplitAsciiWhitespace;
 
 /// A request that is no request: the oracle's own refusal, never the Rust's.
 #[derive(Debug)]
 pub struct Bad;
+
+/// More than this a word does not repeat: a record has less.
+const MOST_TIMES: usize = 1 << 17;
 
 pub struct Args<'a>(Peekable<SplitAsciiWhitespace<'a>>);
 
@@ -64,12 +67,23 @@ pub fn numbers(word: &str) -> Result<Vec<u64>, Bad> {
     word.split(',').map(number).collect()
 }
 
+/// The bytes of a word, as `30+aa*3` is 30aaaaaa.
 pub fn unhex(word: &str) -> Result<Vec<u8>, Bad> {
     if word == "-" {
         return Ok(Vec::new());
     }
+    let mut bytes = Vec::new();
+    for joined in word.split('+') {
+        let (digits, times) = joined.split_once('*').unwrap_or((joined, "1"));
+        let times = usize::try_from(number(times)?).ok().filter(|&n| n <= MOST_TIMES).ok_or(Bad)?;
+        bytes.extend(of_digits(digits)?.repeat(times));
+    }
+    Ok(bytes)
+}
+
+fn of_digits(word: &str) -> Result<Vec<u8>, Bad> {
     let digit = |c: u8| char::from(c).to_digit(16).ok_or(Bad);
-    if !word.len().is_multiple_of(2) {
+    if word.is_empty() || !word.len().is_multiple_of(2) {
         return Err(Bad);
     }
     let pairs = word.as_bytes().chunks(2);

@@ -7,5 +7,5 @@ mod writing;
 
 pub(crate) use ends::ends;
 pub(crate) use number::{pndec, pnenc, pnexp, pnlen, pnnew, pntag};
-pub(crate) use reading::{decode, finish, sample, split, walk};
+pub(crate) use reading::{decode, dump, finish, sample, split, walk};
 pub(crate) use writing::{henc, hlen, hmask, whole};

@@ -1,3 +1,4 @@
+use Rattle.protect.specs.Said.{maskedOf}
 use Rattle.gateway.proofs.Exports.{mask-no, mask-flag, mask-mask, mask-ok, mask-on}
 use borrow.Author.Needs.{needs}
 use Rattle.gateway.proofs.guobbarel_mask.Statement.{statement}
@@ -18,16 +19,32 @@ five-requires c κs = search needs
 mask-requires : tie.Need-mask-requires
 mask-requires c κs = search needs
 
-mask-record-requires : tie.Need-mask-record-requires
-mask-record-requires c κs = search needs
+enum-known-why : tie.Need-enum-known-why
+enum-known-why c = search needs
+
+enum-told : tie.Need-enum-told
+enum-told c = search needs
 
 same-length : tie.Need-same-length
 same-length c = search needs
 
 returns-3 : tie.Need-returns-3
+unfolding maskedOf
 returns-3 c =
-    let f = rw (c .before .before .before .before .before .before .number-len .ensures, c .before .before .before .before .five .ensures) at (c .before .before .before .mask .ensures) in
-    mask-on _ _ _ _ _ (mask-ok _ _ _ _ _ (c .before .before .before .before .before .before .before .before .if1 .left) (c .before .before .before .before .before .before .before .if2 .left)) f (c .mask-record .ensures)
+    let f = rw (c .before .before .before .before .before .before .before .number-len .ensures, c .before .before .before .before .before .five .ensures) at (c .before .before .before .before .mask .ensures) in
+    mask-on _ _ _ _ _ (mask-ok _ _ _ _ _ (c .before .before .before .before .before .before .before .before .before .if1 .left) (c .before .before .before .before .before .before .before .before .if2 .left)) f (rw (c .enum-told .given .1))
+
+number-requires : tie.Need-number-requires
+number-requires c κs = search needs
+
+same-length-2 : tie.Need-same-length-2
+same-length-2 c = search needs
+
+returns-4 : tie.Need-returns-4
+unfolding maskedOf
+returns-4 c =
+    let f = rw (c .before .before .before .before .before .before .before .before .before .number-len .ensures, c .before .before .before .before .before .before .before .five .ensures) at (c .before .before .before .before .before .before .mask .ensures) in
+    mask-on _ _ _ _ _ (mask-ok _ _ _ _ _ (c .before .before .before .before .before .before .before .before .before .before .before .if1 .left) (c .before .before .before .before .before .before .before .before .before .before .if2 .left)) f (rw (c .before .before .why .given .1, c .number .ensures))
 
 pub guobbarel-mask-spec : {M : Type 1} → statement M
 guobbarel-mask-spec =
@@ -38,6 +55,10 @@ guobbarel-mask-spec =
     number-len-requires
     five-requires
     mask-requires
-    mask-record-requires
+    enum-known-why
+    enum-told
     same-length
-    returns-3)
+    returns-3
+    number-requires
+    same-length-2
+    returns-4)

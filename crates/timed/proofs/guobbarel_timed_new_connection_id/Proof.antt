@@ -1,15 +1,7 @@
-use Prim.Native.Nat.{ℕ}
-use mathlib.Core.Path.{ap}
-use Rattle.coding.specs.Words.{Answer}
-use Rattle.shared.specs.Said.{cidReadOf}
-use Rattle.shared.specs.declared.cid.ConnectionId.{ConnectionId}
 use Rattle.timed.proofs.Laws.{so}
 use borrow.Author.Needs.{needs}
 use Rattle.timed.proofs.guobbarel_timed_new_connection_id.Statement.{statement}
 use Rattle.timed.proofs.guobbarel_timed_new_connection_id.Tie as tie
-
-new-requires : tie.Need-new-requires
-new-requires c κs = search needs
 
 new-connection-id-requires : tie.Need-new-connection-id-requires
 new-connection-id-requires c κs = search needs
@@ -21,12 +13,8 @@ same-length : tie.Need-same-length
 same-length c = search needs
 
 returns : tie.Need-returns
-unfolding cidReadOf
-returns c =
-    let e = ap (λ (x : Answer ℕ × ConnectionId). x .1) (c .before .before .before .before .before .before .new .ensures) in
-    so (rw e at (c .before .before .before .new-connection-id .ensures)) (c .written .ensures)
+returns c = so (c .before .before .before .new-connection-id .ensures) (c .written .ensures)
 
 pub guobbarel-timed-new-connection-id-spec : {M : Type 1} → statement M
 guobbarel-timed-new-connection-id-spec =
-    tie.close
-    (tie.spec new-requires new-connection-id-requires written-requires same-length returns)
+    tie.close (tie.spec new-connection-id-requires written-requires same-length returns)

@@ -1,4 +1,4 @@
-//! Cases of packets in: header decode, split, walk, the sample's place, finish.
+//! Cases of packets in: header decode, split, walk, dump, the sample's place, finish.
 use super::super::ask;
 use super::super::rng::Rng;
 use super::super::table::KINDS;
@@ -6,8 +6,14 @@ use super::super::words::{hex, unhex};
 use super::packet_out::{MOST, cid_len, good, token_len};
 use super::{Made, bytes};
 
-pub const MADE: &[Made] =
-    &[("decode", 4, read), ("split", 10, read), ("walk", 8, read), ("finish", 14, finish), ("sample", 3, sample)];
+pub const MADE: &[Made] = &[
+    ("decode", 4, read),
+    ("split", 10, read),
+    ("walk", 8, read),
+    ("dump", 3, dump),
+    ("finish", 14, finish),
+    ("sample", 3, sample),
+];
 
 /// What a datagram is read with: the local CID's length, grease, the versions.
 struct Reader {
@@ -149,6 +155,15 @@ fn read(r: &mut Rng) -> String {
     format!("{} {}", reader.words(), hex(&datagram))
 }
 
+/// A datagram for the dump's reader; rarely the smallest packets, as many as a datagram can have.
+fn dump(r: &mut Rng) -> String {
+    if r.one_in(3_000) {
+        let n = r.near(MOST);
+        return hex(&smallest_up_to(n));
+    }
+    hex(&datagram(r, &Reader { local: 0, grease: false, versions: vec![1] }))
+}
+
 /// The first packet of a datagram, with the kind and the offset that the Rust reads in it; none where it refuses it.
 fn split_off(reader: &str, datagram: &[u8]) -> Option<(String, u64, Vec<u8>)> {
     let mut answer = String::new();
@@ -198,9 +213,15 @@ fn sample(r: &mut Rng) -> String {
 }
 
 const MASK: &str = "0102040810";
+/// What the dump reads with.
+const DUMP: &str = "0 0 1";
+
 fn each_read(emit: &mut dyn FnMut(String), reader: &str, datagram: &[u8]) {
     for op in ["decode", "split", "walk"] {
         emit(format!("{op} {reader} {}", hex(datagram)));
+    }
+    if reader == DUMP {
+        emit(format!("dump {}", hex(datagram)));
     }
     if let Some((kind, offset, packet)) = split_off(reader, datagram) {
         emit(format!("finish {kind} {offset} {MASK} {}", hex(&packet)));
@@ -229,6 +250,11 @@ fn smallest() -> Vec<u8> {
     [long(0xe0, 1, &[], &[]), vec![0]].concat()
 }
 
+/// The smallest packets, one after the other, up to so many bytes.
+fn smallest_up_to(n: usize) -> Vec<u8> {
+    smallest().into_iter().cycle().take(n).collect()
+}
+
 fn first_bytes(emit: &mut dyn FnMut(String)) {
     let tails =
         ["", "00", "0000", "0000 00", "0000 00 00", "0000 05 aa", "0000 01 aa 02 bbcc", "0102 03 04 00 01 dd ee"];
@@ -238,7 +264,9 @@ fn first_bytes(emit: &mut dyn FnMut(String)) {
                 let mut b = vec![first, 0, 0, 0, version];
                 b.extend(unhex(&tail.replace(' ', "")).unwrap_or_default());
                 ["0 0 1", "0 1 1"].iter().for_each(|reader| each_read(emit, reader, &b));
-                emit(format!("walk 0 0 1 {}", hex(&[smallest(), b].concat())));
+                let second = hex(&[smallest(), b].concat());
+                emit(format!("walk {DUMP} {second}"));
+                emit(format!("dump {second}"));
             }
         }
     }
@@ -350,11 +378,10 @@ fn masks(emit: &mut dyn FnMut(String)) {
 /// Around the longest datagram: one short packet, the smallest packets, and one that takes all.
 fn longest(emit: &mut dyn FnMut(String)) {
     for n in [MOST - 1, MOST, MOST + 1] {
-        let many: Vec<u8> = smallest().into_iter().cycle().take(n).collect();
         let one = vec![0x45; n];
         let sized = [long(0xd0, 1, &[], &[]), integer(n as u64 - 11, 4), vec![0x66; n - 11]].concat();
-        for datagram in [many, one.clone(), sized] {
-            each_read(emit, "0 0 1", &datagram);
+        for datagram in [smallest_up_to(n), one.clone(), sized] {
+            each_read(emit, DUMP, &datagram);
         }
         for kind in ["short", "retry"] {
             emit(format!("sample {kind} {} {}", n - 20, hex(&one)));

@@ -62,17 +62,18 @@ impl Cut {
         Self(held(len, value))
     }
 
-    /// Its length, and the full number.
+    /// The full numbers: how many, and the exclusive or of all.
     #[inline]
-    pub fn expand(&self, expected: u64) -> (u64, u64) {
-        (self.0.len() as u64, self.0.expand(expected))
+    pub fn expand(cuts: &[Self], expected: u64) -> (u64, u64) {
+        cuts.iter().fold((0, 0), |(count, mixed), cut| (count + 1, mixed ^ cut.0.expand(expected)))
     }
 }
 
-/// The length of the cut number, and the number that is cut.
+/// Numbers cut, none of them to three bytes: how many, and the exclusive or of all, each with its length above its four bytes.
 #[inline]
-pub fn cut(number: u64, acked: u64) -> (u64, u64) {
-    (black_box(PacketNumber::new(number, acked)).len() as u64, number)
+pub fn cut(numbers: &[u64], acked: u64) -> (u64, u64) {
+    let said = |cut: PacketNumber| u64::from(raw(cut)) | (cut.len() as u64) << 32;
+    numbers.iter().fold((0, 0), |(count, mixed), &n| (count + 1, mixed ^ said(PacketNumber::new(n, acked))))
 }
 
 /// A header to write.

@@ -1,4 +1,4 @@
-//! Header decode, the split, the walk over a datagram, the sample's place, finish.
+//! Header decode, the split, the walk over a datagram and its dump, the sample's place, finish.
 use super::super::*;
 use super::number::raw;
 use crate::MAX_CID_SIZE;
@@ -155,6 +155,13 @@ fn header(packet: &PartialDecode) -> String {
 pub(crate) fn walk(a: &mut Args, out: &mut String) -> Result<(), Bad> {
     let (reader, datagram) = (Reader::new(a)?, a.bytes()?);
     settle(out, reader.outside(&datagram, "refused 0 14"), || walked(&reader, &datagram));
+    Ok(())
+}
+
+/// dump B -> for each packet START LENGTH KIND OFFSET; then end TOTAL; | refused START N; where `;` is a line feed
+pub(crate) fn dump(a: &mut Args, out: &mut String) -> Result<(), Bad> {
+    let (reader, datagram) = (Reader { local: 0, grease: false, versions: vec![1] }, a.bytes()?);
+    settle(out, reader.outside(&datagram, "refused 0 14;"), || walked(&reader, &datagram).replace("; ", ";") + ";");
     Ok(())
 }
 

@@ -21,8 +21,8 @@ loop-holds c = search needs
 read-step-requires : tie.Need-read-step-requires Inv-loop μ-loop
 read-step-requires c κs = search needs
 
-said-requires : tie.Need-said-requires Inv-loop μ-loop
-said-requires c κs = search needs
+put-said-requires : tie.Need-put-said-requires Inv-loop μ-loop
+put-said-requires c κs = search needs
 
 after-requires : tie.Need-after-requires Inv-loop μ-loop
 after-requires c κs = search needs
@@ -63,7 +63,7 @@ ends-spec =
     fresh-requires
     loop-holds
     read-step-requires
-    said-requires
+    put-said-requires
     after-requires
     and-space-requires
     sub-if1

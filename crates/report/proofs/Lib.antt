@@ -1,2 +1,0 @@
--- `Onces` has that each public function has only one answer.
-pub mod Onces
