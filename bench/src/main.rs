@@ -2,6 +2,7 @@
 mod clock;
 mod ffi;
 mod inputs;
+mod place;
 mod plot;
 mod report;
 mod rows;

@@ -3,6 +3,7 @@ mod timed;
 
 use crate::clock::{Sides, Tally, plain, prepared};
 use crate::inputs::{self, CID, LOCAL, LONGEST, MASK, VERSIONS, Widths};
+use crate::place::{Appended, Room};
 use guobbarel::{CutNumber, Ends, Frame, Frames, FullNumber, Header, Kind, Packets, Written, unmask};
 use oracle::bench as rust;
 use oracle::crypto::MaskKey;
@@ -235,14 +236,15 @@ fn pair(i: usize) -> Result<(Head, Head), String> {
 fn headers() -> Rows {
     let one = |i: usize| {
         let (ours, theirs) = pair(i)?;
-        let (mut out, mut w) = (vec![0; 1500], Vec::with_capacity(1500));
-        let (name, bytes) = (ours.name, ours.write(&mut out).map_or(0, |written| written.header_len));
+        let (mut out, mut w) = (Room::new(1500), Appended::new(1500));
+        let (name, bytes) = (ours.name, ours.write(out.bytes()).map_or(0, |written| written.header_len));
         let ours = plain(move || {
-            let written = black_box(&ours).write(&mut out)?;
-            black_box(&out[..]);
+            let out = out.bytes();
+            let written = black_box(&ours).write(out)?;
+            black_box(&*out);
             Some((written.header_len as u64, written.number_len as u64))
         });
-        let theirs = plain(move || black_box(&theirs.theirs).encode(&mut w));
+        let theirs = plain(move || black_box(&theirs.theirs).encode(w.empty()));
         row(HEADERS, name.into(), [bytes, 0], Sides::plain([ours, theirs]))
     };
     (0..3).map(one).collect()
@@ -256,11 +258,11 @@ fn protected(section: &'static str, i: usize, whole: bool) -> Result<Row, String
     packet.truncate(told.header_len + PAYLOAD);
     let (sizes, given) = ([packet.len(), 0], packet.clone());
     let first = |packet: &[u8]| Some((packet[0].into(), packet.len() as u64));
-    let (mut out, mut w) = (vec![0; 1500], Vec::with_capacity(1500));
+    let (mut out, mut w) = (Room::new(1500), Appended::new(1500));
     let ours = prepared(
         move || packet.clone(),
         move |packet| {
-            let written = if whole { black_box(&ours).write(&mut out)? } else { *black_box(&told) };
+            let written = if whole { black_box(&ours).write(out.bytes())? } else { *black_box(&told) };
             written.protect(packet, black_box(&MASK)).ok()?;
             first(packet)
         },
@@ -270,7 +272,7 @@ fn protected(section: &'static str, i: usize, whole: bool) -> Result<Row, String
         move || given.clone(),
         move |packet| {
             if whole {
-                black_box(&theirs.theirs).encode(&mut w)?;
+                black_box(&theirs.theirs).encode(w.empty())?;
             }
             let told = black_box(&told);
             rust::protect(told.header_len, told.number_len, told.has_length, packet, black_box(&key));

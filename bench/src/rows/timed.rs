@@ -3,6 +3,7 @@ use super::{DUMP, ENCODERS, INTEGERS, NUMBERS, Row, Rows, row};
 use crate::clock::{Sides, plain};
 use crate::ffi;
 use crate::inputs::{self, CID, Widths};
+use crate::place::{Appended, Room, carried};
 use oracle::TransportErrorCode;
 use oracle::bench as rust;
 use std::hint::black_box;
@@ -40,23 +41,7 @@ pub fn numbers(acked: u64, expected: u64) -> Rows {
 /// An odd number, so that lengths, which are alike, do not cancel out in the exclusive or.
 const NUMBERED: u64 = 1001;
 
-/// Bytes for frames to carry, the same for both sides. They stand half a page from where a frame is written: a load and a store
-/// whose addresses agree in their low twelve bits wait for each other.
-#[repr(align(4096))]
-struct Pages([u8; 2 * PAGE]);
-static CARRIED: Pages = Pages([0x5a; 2 * PAGE]);
-
-fn carried(len: usize) -> &'static [u8] {
-    &CARRIED.0[PAGE / 2..PAGE / 2 + len]
-}
-
-const PAGE: usize = 4096;
 const ROOM: usize = 2000;
-
-/// How far it is to the next page from where these bytes stand: both sides write at the start of one.
-fn page_start(bytes: &[u8]) -> usize {
-    bytes.as_ptr().align_offset(PAGE)
-}
 
 /// A frame that both sides write; an error where the bytes are not the same.
 fn encoded(
@@ -65,24 +50,21 @@ fn encoded(
     ours: impl Fn(&mut [u8]) -> Option<usize> + 'static,
     theirs: impl Fn(&mut Vec<u8>) + 'static,
 ) -> Result<Row, String> {
-    let (mut out, mut w) = (vec![0; ROOM + PAGE], Vec::with_capacity(ROOM + PAGE));
-    let [from, start] = [page_start(&out), page_start(&w)];
-    w.resize(start, 0);
-    let bytes = ours(&mut out[from..]).unwrap_or(0);
-    theirs(&mut w);
-    if out[from..from + bytes] != w[start..] {
+    let (mut out, mut w) = (Room::new(ROOM), Appended::new(ROOM));
+    let bytes = ours(out.bytes()).unwrap_or(0);
+    theirs(w.empty());
+    if out.bytes()[..bytes] != *w.bytes() {
         return Err(format!("{ENCODERS}, {input}: the bytes are not the Rust's"));
     }
     let ours = plain(move || {
-        let out = &mut out[from..];
+        let out = out.bytes();
         let len = ours(out)?;
         black_box(&*out);
         Some((len as u64, out[0].into()))
     });
     let theirs = plain(move || {
-        w.truncate(start);
-        theirs(&mut w);
-        let out = black_box(&w[start..]);
+        theirs(w.empty());
+        let out = black_box(w.bytes());
         Some((out.len() as u64, out[0].into()))
     });
     row(ENCODERS, input.into(), [bytes, items], Sides::plain([ours, theirs]))

@@ -96,10 +96,9 @@ impl Head {
         Self(Header::Short { spin: false, key_phase: false, dst_cid, number: number.0 })
     }
 
-    /// Its bytes, and those of its number. The Length is left 0, for finish to set.
+    /// Appends it: its bytes, and those of its number. The Length is left 0, for finish to set.
     #[inline]
     pub fn encode(&self, w: &mut Vec<u8>) -> Option<(u64, u64)> {
-        w.clear();
         let partial = self.0.encode(w);
         black_box(&w[..]);
         Some((partial.header_len as u64, partial.pn?.0 as u64))
