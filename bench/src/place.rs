@@ -3,14 +3,16 @@
 use std::hint::black_box;
 
 const PAGE: usize = 4096;
+/// Bytes that are written or read start where a line of the cache does.
+const LINE: usize = 64;
 /// How far past the stack, within a page, bytes are written, and how far those stand that are read for it.
 const WRITTEN: usize = 1024;
 const READ: usize = 2560;
 
-/// How far past the start of a page the stack stands.
+/// How far past the start of a page the stack stands, to a line.
 fn stack() -> usize {
     let here = 0u8;
-    black_box(&raw const here).addr() % PAGE
+    black_box(&raw const here).addr() % PAGE / LINE * LINE
 }
 
 /// How many of these bytes to leave out, less than a page, to be so far past the stack.

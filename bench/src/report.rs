@@ -37,7 +37,7 @@ fn summary(table: &[Row]) -> String {
     let count = |over: f64| medians.iter().filter(|&&ratio| ratio > over).count();
     let (all, above, faults) = (medians.len(), count(1.0), count(1.5));
     format!(
-        "Of {all} rows, ours takes at most the Rust's median time in {}; more in {above}, of which {faults} are above 1.5 times.\n\n",
+        "Of {all} rows, ours takes at most the Rust's median time in {}; more in {above}, and above 1.5 times it in {faults}.\n\n",
         all - above
     )
 }
