@@ -20,11 +20,11 @@ use Rattle.ack_iter.proofs.Ranges as iterated
 use Rattle.frame.specs.Format as format
 use Rattle.frame.specs.Format.{Value, num, place, said, Field, var, ackBlocks, const}
 use Rattle.frame.specs.Table.{table, taken, frameAt}
-use Rattle.frame_write.specs.Writing.{Word, number, raw, nothing, roundsIn, fieldBytes, rowBytes, frameBytes}
-use Rattle.frame_write.specs.Limits.{below62, varsBytes}
-use Rattle.frame_write.specs.Back.{Writes}
-use Rattle.frame_write.proofs.Laws.{below-cons, vars-bound}
-use Rattle.frame_write.proofs.Trip.{frame-back, words-back}
+use Rattle.row_out.specs.Writing.{Word, number, raw, nothing, roundsIn, fieldBytes, rowBytes, frameBytes}
+use Rattle.row_out.specs.Limits.{below62, varsBytes}
+use Rattle.row_out.specs.Back.{Writes}
+use Rattle.row_out.proofs.Laws.{below-cons, vars-bound}
+use Rattle.row_out.proofs.Trip.{frame-back, words-back}
 use Rattle.ack_out.specs.Acks.{isRanges, rangeAt, rangesOf, ranges, largestOf, blockNumbers, blockBytes, countsOf, typeOf, ecnWords, ackWords, ackOut}
 use Rattle.ack_out.proofs.Frames.{ranges-length, ranged, length-whole, rounds, whole-is, few, all-below}
 use Rattle.ack_out.proofs.Runs.{Ready, ready}

@@ -11,7 +11,7 @@ use Rattle.coding.proofs.Laws.{length-var}
 use Rattle.coding.proofs.Back.{var-back}
 use Rattle.ack.specs.Scan.{Range, rounds, scanAt, roundRanges, rangesAt}
 use Rattle.ack.proofs.Ranges.{round-range, first-range}
-use Rattle.frame_write.specs.Limits.{varsBytes}
+use Rattle.row_out.specs.Limits.{varsBytes}
 use Rattle.ack_out.specs.Acks.{roundNumbers, blockNumbers, blockBytes}
 
 -- gaps and blocks as they are written

@@ -18,10 +18,10 @@ use Rattle.coding.specs.declared.refusal.Refusal.{Refusal}
 use Rattle.coding.specs.declared.varint.Sized.{Sized}
 use Rattle.coding.specs.declared.varint.Sized.the-variants as sized
 use Rattle.frame.specs.Table.{table}
-use Rattle.frame_write.specs.Writing.{number, nothing, roundsIn, fieldBytes, rowBytes, frameBytes}
-use Rattle.frame_write.specs.Limits.{below62, inFrame, limited, numbersIn, frameOut, varsBytes, varsOut}
-use Rattle.frame_write.proofs.Laws.{below-cons, cons-below, limited-ok, limited-past, limited-long, Held, out-ok}
-use Rattle.frame_write.proofs.Rounds.{rounds-vars}
+use Rattle.row_out.specs.Writing.{number, nothing, roundsIn, fieldBytes, rowBytes, frameBytes}
+use Rattle.row_out.specs.Limits.{below62, inFrame, limited, numbersIn, frameOut, varsBytes, varsOut}
+use Rattle.row_out.proofs.Laws.{below-cons, cons-below, limited-ok, limited-past, limited-long, Held, out-ok}
+use Rattle.row_out.proofs.Rounds.{rounds-vars}
 use Rattle.ack.specs.Scan.{Range}
 use Rattle.ack_out.specs.Acks.{isRanges, rangeAt, rangesOf, ranges, largestOf, blockNumbers, blockBytes, countsOf, typeOf, ecnWords, ackWords, ackOut, headOf}
 use Rattle.ack_out.proofs.Lists.{at, Kept, kept, blocks-of, stepped, steps}

@@ -10,7 +10,7 @@ use lib.Seq.{drop-cons}
 use borrow.Author.Tests.{ltb-false, leb-false, eqb-false, le-leb, lt-leb}
 use Rattle.coding.specs.Words.{if_then_else_}
 use Rattle.coding.specs.Varint.{varBytes}
-use Rattle.frame_write.specs.Limits.{varsBytes}
+use Rattle.row_out.specs.Limits.{varsBytes}
 use Rattle.ack_out.specs.Acks.{ascends, isRanges, rangeAt, rangesOf, ranges, roundNumbers, blockNumbers}
 use Rattle.ack_out.proofs.Blocks.{Below}
 

@@ -12,8 +12,8 @@ use Rattle.coding.specs.Words.{if_then_else_, no, ok}
 use Rattle.coding.specs.Writing.{Put}
 use Rattle.coding.proofs.Laws.{length-splice}
 use Rattle.coding.proofs.Writes.{So, put-so, so-put}
-use Rattle.frame_write.specs.Limits.{below62, inFrame, limited, varsBytes, varsOut, stored}
-use Rattle.frame_write.proofs.Laws.{out-ok}
+use Rattle.row_out.specs.Limits.{below62, inFrame, limited, varsBytes, varsOut, stored}
+use Rattle.row_out.proofs.Laws.{out-ok}
 use Rattle.ack_out.specs.Acks.{isRanges, ackOut}
 use Rattle.ack_out.proofs.Frames.{head, counts, blocks, whole, given, length-whole, not-ranges, is-limited, few, all-below}
 

@@ -8,7 +8,7 @@ use Rattle.coding.specs.Varint.{varBytes, varSize, varPut}
 use Rattle.coding.specs.Writing.{Put}
 use Rattle.coding.proofs.Laws.{length-var, length-splice, size-le, put-some}
 use Rattle.coding.proofs.Writes.{So, so-none, so-put, put-fits}
-use Rattle.frame_write.specs.Limits.{varsBytes}
+use Rattle.row_out.specs.Limits.{varsBytes}
 use Rattle.ack_out.specs.Acks.{ranges, blockBytes}
 use Rattle.ack_out.proofs.Lists.{at, Kept, blocks-of, stepBytes, bytes-one, bytes-none}
 

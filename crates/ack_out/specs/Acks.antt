@@ -8,8 +8,8 @@ use lib.Dec.{ltb, leb, eqb}
 use Rattle.coding.specs.Words.{if_then_else_, Answer, no}
 use Rattle.ack.specs.Scan.{Range}
 use Rattle.frame.specs.Table.{table}
-use Rattle.frame_write.specs.Writing.{Word, number, raw, nothing}
-use Rattle.frame_write.specs.Limits.{varsBytes, frameOut}
+use Rattle.row_out.specs.Writing.{Word, number, raw, nothing}
+use Rattle.row_out.specs.Limits.{varsBytes, frameOut}
 
 -- ---- the ranges of a flat list of starts and ends, each end past its range's largest number
 

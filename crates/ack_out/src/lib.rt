@@ -15,7 +15,7 @@ ghost use lib.ListN.{length, getD};
 ghost use Rattle.coding.specs.Varint.{varSize};
 ghost use Rattle.coding.specs.Said.{sizedOf, wroteOf};
 ghost use Rattle.coding.specs.Writing.{lengthOf, Written, Put};
-ghost use Rattle.frame_write.specs.Limits.{varsOut, stored};
+ghost use Rattle.row_out.specs.Limits.{varsOut, stored};
 ghost use Rattle.ack_out.specs.Acks.{ascends, isRanges, ranges, blockBytes, typeOf, headOf, countsOf, ackOut};
 ghost use Rattle.ack_out.specs.Said.{ecnOf};
 
@@ -120,7 +120,7 @@ fn counts_len(ecn: AckEcn) -> Sized
     ensures { λ r. ⌜ sizedOf r ≡ lengthOf (varsOut (countsOf (ecnOf ecn)) []) ⌝ }
 {
     match ecn {
-        AckEcn::Counts(c) => frame_write::vars_len(&[c.ect0, c.ect1, c.ce]),
+        AckEcn::Counts(c) => row_out::vars_len(&[c.ect0, c.ect1, c.ce]),
         AckEcn::Nothing => Sized::Bytes(0),
     }
 }
@@ -129,7 +129,7 @@ fn put_counts(ecn: AckEcn, buf: &mut [u8], at: usize) -> usize
     ensures { λ r. ⌜ Put (stored (varsOut (countsOf (ecnOf ecn)) [])) (now (buf .entry)) at r (now (buf .exit)) ⌝ }
 {
     match ecn {
-        AckEcn::Counts(c) => frame_write::put_vars(buf, at, &[c.ect0, c.ect1, c.ce]),
+        AckEcn::Counts(c) => row_out::put_vars(buf, at, &[c.ect0, c.ect1, c.ce]),
         AckEcn::Nothing => at,
     }
 }
@@ -143,7 +143,7 @@ fn frame_len(delay: u64, list: &[u64], ecn: AckEcn) -> Sized
         return Sized::Refused(Refusal::Argument);
     }
     let head = head_of(delay, list, ecn);
-    let Sized::Bytes(first) = frame_write::vars_len(&head) else {
+    let Sized::Bytes(first) = row_out::vars_len(&head) else {
         return Sized::Refused(Refusal::Argument);
     };
     let Sized::Bytes(last) = counts_len(ecn) else {
@@ -177,7 +177,7 @@ pub fn ack(delay: u64, ranges: &[u64], ecn: AckEcn, out: &mut [u8]) -> Wrote
         return Wrote::Refused(Refusal::Room);
     }
     let head = head_of(delay, ranges, ecn);
-    let blocks = frame_write::put_vars(out, 0, &head);
+    let blocks = row_out::put_vars(out, 0, &head);
     let counts = put_blocks(ranges, out, blocks);
     Wrote::Len(put_counts(ecn, out, counts))
 }

@@ -10,8 +10,8 @@ use Rattle.coding.specs.Words.{if_then_else_, ok}
 use Rattle.shared.specs.Cid.{longBytes}
 use Rattle.shared.specs.declared.cid.ConnectionId.{ConnectionId}
 use Rattle.shared.proofs.Laws.{length-cid, length-long}
-use Rattle.frame_write.specs.Writing.{Word, numberIn}
-use Rattle.frame_write.proofs.Laws.{out-bound}
+use Rattle.row_out.specs.Writing.{Word, numberIn}
+use Rattle.row_out.proofs.Laws.{out-bound}
 use Rattle.frame_out.specs.Frames.{streamType, metaOut, cryptoOut, resetStreamOut, stopSendingOut, newCidOut, datagramOut}
 use Rattle.frame_out.specs.Closes.{connection, application, fixedFields, closeWith, closeOut}
 use Rattle.frame_out.proofs.Vals.{crypto-vals, reset-vals, stop-vals, datagram-vals, connection-vals, application-vals, when, unless, meta-seen, meta-out, cid-vals, cid-seen}

@@ -14,9 +14,9 @@ use Rattle.coding.specs.Writing.{lengthOf}
 use Rattle.coding.specs.declared.refusal.Refusal.{Refusal}
 use Rattle.coding.specs.declared.varint.Sized.{Sized}
 use Rattle.coding.specs.declared.varint.Sized.the-variants as sized
-use Rattle.frame_write.specs.Writing.{Word, numberIn}
-use Rattle.frame_write.specs.Limits.{varsOut}
-use Rattle.frame_write.proofs.Laws.{below-not, out-past}
+use Rattle.row_out.specs.Writing.{Word, numberIn}
+use Rattle.row_out.specs.Limits.{varsOut}
+use Rattle.row_out.proofs.Laws.{below-not, out-past}
 use Rattle.frame_out.specs.Closes.{Closing, connection, application, fixedFields, cutTo, closeWith, closeOut}
 use Rattle.frame_out.proofs.Vals.{connection-vals, application-vals}
 

@@ -12,9 +12,9 @@ use borrow.Author.Tests.{lt-ltb}
 use Rattle.coding.specs.Words.{if_then_else_, ok}
 use Rattle.coding.specs.Varint.{varTag, varSize}
 use Rattle.coding.proofs.Laws.{fits-tag, length-var, size-le}
-use Rattle.frame_write.specs.Writing.{Word, numberIn}
-use Rattle.frame_write.specs.Limits.{varsBytes}
-use Rattle.frame_write.proofs.Laws.{below-at, out-seen}
+use Rattle.row_out.specs.Writing.{Word, numberIn}
+use Rattle.row_out.specs.Limits.{varsBytes}
+use Rattle.row_out.proofs.Laws.{below-at, out-seen}
 use Rattle.frame_out.specs.Closes.{connection, application, fixedFields, closeWith, closeOut}
 use Rattle.frame_out.proofs.Vals.{connection-vals, application-vals}
 use Rattle.frame_out.proofs.Cuts.{close-seen}

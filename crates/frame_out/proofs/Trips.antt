@@ -14,10 +14,10 @@ use Rattle.shared.specs.declared.cid.ConnectionId.{ConnectionId}
 use Rattle.shared.proofs.Laws.{length-cid}
 use Rattle.frame.specs.Format.{orNone, orNothing}
 use Rattle.frame.specs.Table.{flag, table}
-use Rattle.frame_write.specs.Writing.{Word, number, raw, nothing, numberIn, fieldBytes, rowBytes, frameBytes}
-use Rattle.frame_write.specs.Back.{wordRead, ReadAs}
-use Rattle.frame_write.proofs.Laws.{below-at}
-use Rattle.frame_write.proofs.Trip.{read-as, out-read}
+use Rattle.row_out.specs.Writing.{Word, number, raw, nothing, numberIn, fieldBytes, rowBytes, frameBytes}
+use Rattle.row_out.specs.Back.{wordRead, ReadAs}
+use Rattle.row_out.proofs.Laws.{below-at}
+use Rattle.row_out.proofs.Trip.{read-as, out-read}
 use Rattle.frame_out.specs.Frames.{streamType, streamWords, metaBytes, metaOut, cryptoOut, newTokenOut, resetStreamOut, stopSendingOut, newCidOut, datagramOut, ackFrequencyOut}
 use Rattle.frame_out.specs.Closes.{connection, application, fixedFields, closeWith, closeOut}
 use Rattle.frame_out.proofs.Vals.{crypto-vals, token-vals, reset-vals, stop-vals, frequency-vals, datagram-vals, connection-vals, application-vals, typeBy, meta-seen, cid-frame, cid-vals, cid-seen}

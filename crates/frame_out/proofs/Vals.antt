@@ -15,9 +15,9 @@ use Rattle.shared.specs.Cid.{cidBytes, longBytes, longPut}
 use Rattle.shared.specs.declared.cid.ConnectionId.{ConnectionId}
 use Rattle.shared.proofs.Laws.{length-long, long-some}
 use Rattle.frame.specs.Table.{table}
-use Rattle.frame_write.specs.Writing.{Word, number, raw, nothing, numberIn, fieldBytes, rowBytes, frameBytes}
-use Rattle.frame_write.specs.Limits.{below62, limited, numbersIn, frameOut, varsBytes, varsOut, stored}
-use Rattle.frame_write.proofs.Laws.{below-at, below-not, vars-bound, limited-past, limited-seen, Held, out-ok, vals-same}
+use Rattle.row_out.specs.Writing.{Word, number, raw, nothing, numberIn, fieldBytes, rowBytes, frameBytes}
+use Rattle.row_out.specs.Limits.{below62, limited, numbersIn, frameOut, varsBytes, varsOut, stored}
+use Rattle.row_out.proofs.Laws.{below-at, below-not, vars-bound, limited-past, limited-seen, Held, out-ok, vals-same}
 use Rattle.frame_out.specs.Frames.{ecnOut, streamType, streamWords, metaBytes, metaOut, cryptoOut, newTokenOut, resetStreamOut, stopSendingOut, newCidOut, datagramOut, ackFrequencyOut}
 use Rattle.frame_out.specs.Closes.{connection}
 

@@ -7,8 +7,8 @@ use lib.Dec.{ltb, leb}
 use Rattle.coding.specs.Words.{if_then_else_, Answer, no, ok}
 use Rattle.coding.specs.Varint.{varSize}
 use Rattle.frame.specs.Table.{table}
-use Rattle.frame_write.specs.Writing.{Word, number, raw, numberIn}
-use Rattle.frame_write.specs.Limits.{frameOut}
+use Rattle.row_out.specs.Writing.{Word, number, raw, numberIn}
+use Rattle.row_out.specs.Limits.{frameOut}
 
 -- the transport's, with its error code and the frame type that caused it, or nothing; the application's, with its error code
 pub data Closing : Type 0 where

@@ -9,8 +9,8 @@ use Rattle.coding.specs.Varint.{varBytes}
 use Rattle.shared.specs.Cid.{cidBytes}
 use Rattle.shared.specs.declared.cid.ConnectionId.{ConnectionId}
 use Rattle.frame.specs.Table.{flag, ecnFields, table}
-use Rattle.frame_write.specs.Writing.{Word, number, raw, rowBytes, frameBytes}
-use Rattle.frame_write.specs.Limits.{limited, frameOut}
+use Rattle.row_out.specs.Writing.{Word, number, raw, rowBytes, frameBytes}
+use Rattle.row_out.specs.Limits.{limited, frameOut}
 
 -- the ECN counts by themselves: the last fields of an ACK
 unfoldable pub ecnOut : ℕ → ℕ → ℕ → Answer (List ℕ)

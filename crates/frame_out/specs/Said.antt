@@ -3,7 +3,7 @@ use Prim.Native.Nat.{ℕ}
 use Rattle.coding.specs.Words.{Got, cut, got}
 use Rattle.frame.specs.declared.kinds.TypeRead.{TypeRead}
 use Rattle.frame.specs.declared.kinds.TypeRead.the-variants as ty
-use Rattle.frame_write.specs.Writing.{Word, number, nothing}
+use Rattle.row_out.specs.Writing.{Word, number, nothing}
 use Rattle.frame_out.specs.declared.closes.CloseKind.{CloseKind}
 use Rattle.frame_out.specs.declared.closes.CloseKind.the-variants as close
 use Rattle.frame_out.specs.declared.codec.FrameTypeRead.{FrameTypeRead}

@@ -11,7 +11,7 @@ ghost use lib.ListN.{length};
 ghost use Rattle.coding.specs.Said.{sizedOf, wroteOf};
 ghost use Rattle.coding.specs.Varint.{varSize};
 ghost use Rattle.coding.specs.Writing.{lengthOf, Written};
-ghost use Rattle.frame_write.specs.Writing.{numberIn};
+ghost use Rattle.row_out.specs.Writing.{numberIn};
 ghost use Rattle.frame_out.specs.Closes.{connection, application, isConnection, cutTo, closeOut};
 ghost use Rattle.frame_out.specs.Said.{typeWord, closingOf};
 
@@ -92,7 +92,7 @@ pub fn connection_close(
         return Wrote::Refused(Refusal::Argument);
     };
     let vals = [FrameType::CONNECTION_CLOSE.0, error_code, ty, len as u64];
-    frame_write::frame_of(&vals, &reason[..len], out)
+    row_out::frame_of(&vals, &reason[..len], out)
 }
 
 pub fn application_close(error_code: u64, reason: &[u8], max_len: usize, out: &mut [u8]) -> Wrote
@@ -105,7 +105,7 @@ pub fn application_close(error_code: u64, reason: &[u8], max_len: usize, out: &m
         return Wrote::Refused(Refusal::Argument);
     };
     let vals = [FrameType::APPLICATION_CLOSE.0, error_code, len as u64];
-    frame_write::frame_of(&vals, &reason[..len], out)
+    row_out::frame_of(&vals, &reason[..len], out)
 }
 
 pub fn close(kind: CloseKind, reason: &[u8], max_len: usize, out: &mut [u8]) -> Wrote

@@ -37,7 +37,7 @@ ghost use Rattle.coding.specs.Words.{if_then_else_};
 ghost use Rattle.coding.specs.Said.{sizedOf, wroteOf};
 ghost use Rattle.coding.specs.Writing.{lengthOf, Written};
 ghost use Rattle.shared.specs.Cid.{longBytes};
-ghost use Rattle.frame_write.specs.Limits.{varsOut};
+ghost use Rattle.row_out.specs.Limits.{varsOut};
 ghost use Rattle.frame_out.specs.Frames.{ecnOut, streamType, metaOut, cryptoOut, newTokenOut, resetStreamOut, stopSendingOut, newCidOut, datagramOut, ackFrequencyOut};
 
 // The smallest number of bytes that a frame is guaranteed to fit within, besides its data, is its SIZE_BOUND.
@@ -65,7 +65,7 @@ pub fn ecn_counts(counts: EcnCounts, out: &mut [u8]) -> Wrote
     ensures { λ r. ⌜ Written (ecnOut (counts .ect0) (counts .ect1) (counts .ce)) (now (out .entry)) (wroteOf r) (now (out .exit)) ⌝ }
 {
     let vals = [counts.ect0, counts.ect1, counts.ce];
-    frame_write::frame_of(&vals, &[], out)
+    row_out::frame_of(&vals, &[], out)
 }
 
 // The type's bit of an offset.
@@ -106,14 +106,14 @@ pub fn stream_meta(meta: StreamMeta, length: bool, out: &mut [u8]) -> Wrote
     let len = meta.end - meta.start;
     if meta.start == 0 {
         if length {
-            return frame_write::frame_of(&[ty, meta.id.0, len], &[], out);
+            return row_out::frame_of(&[ty, meta.id.0, len], &[], out);
         }
-        return frame_write::frame_of(&[ty, meta.id.0], &[], out);
+        return row_out::frame_of(&[ty, meta.id.0], &[], out);
     }
     if length {
-        return frame_write::frame_of(&[ty, meta.id.0, meta.start, len], &[], out);
+        return row_out::frame_of(&[ty, meta.id.0, meta.start, len], &[], out);
     }
-    frame_write::frame_of(&[ty, meta.id.0, meta.start], &[], out)
+    row_out::frame_of(&[ty, meta.id.0, meta.start], &[], out)
 }
 
 pub const CRYPTO_SIZE_BOUND: usize = 17;
@@ -122,21 +122,21 @@ pub fn crypto(offset: u64, data: &[u8], out: &mut [u8]) -> Wrote
     ensures { λ r. ⌜ Written (cryptoOut offset (now («data» .entry))) (now (out .entry)) (wroteOf r) (now (out .exit)) ⌝ }
 {
     let vals = [FrameType::CRYPTO.0, offset, data.len() as u64];
-    frame_write::frame_of(&vals, data, out)
+    row_out::frame_of(&vals, data, out)
 }
 
 pub fn new_token(token: &[u8], out: &mut [u8]) -> Wrote
     ensures { λ r. ⌜ Written (newTokenOut (now (token .entry))) (now (out .entry)) (wroteOf r) (now (out .exit)) ⌝ }
 {
     let vals = [FrameType::NEW_TOKEN.0, token.len() as u64];
-    frame_write::frame_of(&vals, token, out)
+    row_out::frame_of(&vals, token, out)
 }
 
 pub fn new_token_size(token: &[u8]) -> Sized
     ensures { λ r. ⌜ sizedOf r ≡ lengthOf (newTokenOut (now (token .entry))) ⌝ }
 {
     let vals = [FrameType::NEW_TOKEN.0, token.len() as u64];
-    frame_write::frame_size(&vals, token)
+    row_out::frame_size(&vals, token)
 }
 
 pub const RESET_STREAM_SIZE_BOUND: usize = 1 + 8 + 8 + 8;
@@ -150,7 +150,7 @@ pub fn reset_stream(frame: ResetStream, out: &mut [u8]) -> Wrote
         frame.error_code,
         frame.final_offset,
     ];
-    frame_write::frame_of(&vals, &[], out)
+    row_out::frame_of(&vals, &[], out)
 }
 
 pub const STOP_SENDING_SIZE_BOUND: usize = 1 + 8 + 8;
@@ -159,7 +159,7 @@ pub fn stop_sending(frame: StopSending, out: &mut [u8]) -> Wrote
     ensures { λ r. ⌜ Written (stopSendingOut (frame .id .0) (frame .«error_code»)) (now (out .entry)) (wroteOf r) (now (out .exit)) ⌝ }
 {
     let vals = [FrameType::STOP_SENDING.0, frame.id.0, frame.error_code];
-    frame_write::frame_of(&vals, &[], out)
+    row_out::frame_of(&vals, &[], out)
 }
 
 pub const NEW_CONNECTION_ID_SIZE_BOUND: usize = 1 + 8 + 8 + 1 + MAX_CID_SIZE + 16;
@@ -169,14 +169,14 @@ fn frame_with_id(vals: &[u64], id: ConnectionId, reset_token: &[u8], out: &mut [
     requires { ⌜ (id .len ≤ 20) × ((length (now vals) ≤ 3) × (length (now «reset_token») ≡ 16)) ⌝ }
     ensures { λ r. ⌜ Written (varsOut (now (vals .entry)) (longBytes id ++ now («reset_token» .entry))) (now (out .entry)) (wroteOf r) (now (out .exit)) ⌝ }
 {
-    let Sized::Bytes(n) = frame_write::vars_len(vals) else {
+    let Sized::Bytes(n) = row_out::vars_len(vals) else {
         return Wrote::Refused(Refusal::Argument);
     };
     // the length byte, the id, and the token's 16
     if out.len() < n + (17 + id.len as usize) {
         return Wrote::Refused(Refusal::Room);
     }
-    let start = frame_write::put_vars(out, 0, vals);
+    let start = row_out::put_vars(out, 0, vals);
     let next = id.put_long(out, start);
     Wrote::Len(coding::put_slice(out, next, reset_token))
 }
@@ -210,18 +210,18 @@ pub fn datagram(length: bool, data: &[u8], out: &mut [u8]) -> Wrote
     ensures { λ r. ⌜ Written (datagramOut length (now («data» .entry))) (now (out .entry)) (wroteOf r) (now (out .exit)) ⌝ }
 {
     if length {
-        return frame_write::frame_of(&[0x31, data.len() as u64], data, out);
+        return row_out::frame_of(&[0x31, data.len() as u64], data, out);
     }
-    frame_write::frame_of(&[0x30], data, out)
+    row_out::frame_of(&[0x30], data, out)
 }
 
 pub fn datagram_size(length: bool, data: &[u8]) -> Sized
     ensures { λ r. ⌜ sizedOf r ≡ lengthOf (datagramOut length (now («data» .entry))) ⌝ }
 {
     if length {
-        return frame_write::frame_size(&[0x31, data.len() as u64], data);
+        return row_out::frame_size(&[0x31, data.len() as u64], data);
     }
-    frame_write::frame_size(&[0x30], data)
+    row_out::frame_size(&[0x30], data)
 }
 
 pub fn ack_frequency(frame: AckFrequency, out: &mut [u8]) -> Wrote
@@ -234,5 +234,5 @@ pub fn ack_frequency(frame: AckFrequency, out: &mut [u8]) -> Wrote
         frame.request_max_ack_delay,
         frame.reordering_threshold,
     ];
-    frame_write::frame_of(&vals, &[], out)
+    row_out::frame_of(&vals, &[], out)
 }

@@ -14,8 +14,8 @@ use Rattle.packet.specs.Walk.{Met, ended, packet, stopped, Step, stepAt}
 use Rattle.protect.specs.Steps.{leftBy, readOff, sampleAt, Opened, finishAt, finished, done, maskAt}
 use Rattle.protect.specs.Steps as opened
 use Rattle.frame.specs.Table.{flag}
-use Rattle.frame_answer.specs.Spans.{span, spanOf}
-use Rattle.frame_answer.specs.declared.records.Span.{Span}
+use Rattle.gateway_frame.specs.Spans.{span, spanOf}
+use Rattle.gateway_frame.specs.declared.records.Span.{Span}
 use Rattle.gateway.specs.Arguments.{longKind, numberedKind, numberGiven}
 use Rattle.gateway.specs.declared.records.SplitAnswer.{SplitAnswer}
 use Rattle.gateway.specs.declared.records.SampleAnswer.{SampleAnswer}

@@ -6,9 +6,9 @@ mod numbers; // numbers.rt: the number ends, in and out
 mod packets; // packets.rt: what a header and what finish say, as records
 mod records; // records.rt: what goes over the surface by value
 
-pub use frame_answer::FrameAnswer;
-pub use frame_answer::FrameValue;
-pub use frame_answer::Span;
+pub use gateway_frame::FrameAnswer;
+pub use gateway_frame::FrameValue;
+pub use gateway_frame::Span;
 use protect::Masked;
 pub use records::HeaderAnswer;
 pub use records::HeaderGiven;
@@ -18,7 +18,7 @@ pub use records::SampleAnswer;
 pub use records::SplitAnswer;
 pub use records::UnmaskAnswer;
 ghost use mathlib.Core.Path.{_≡_};
-ghost use Rattle.frame_answer.specs.Frames.{frameFor};
+ghost use Rattle.gateway_frame.specs.Frames.{frameFor};
 ghost use Rattle.gateway.specs.Packets.{splitFor, sampleFor, Unmasks, Masks};
 ghost use Rattle.gateway.specs.Numbers.{numberFor};
 ghost use Rattle.gateway.specs.Headers.{Writes};
@@ -91,10 +91,10 @@ pub extern "C" fn guobbarel_frame_read(payload: &[u8], at: usize) -> FrameAnswer
     ensures { λ r. ⌜ r ≡ frameFor (now (payload .entry)) at ⌝ }
 {
     // PADDING comes in runs: it is answered at once, straight into the caller's memory
-    if frame_answer::is_padding(payload, at) {
-        return frame_answer::padding(at, at + 1);
+    if gateway_frame::is_padding(payload, at) {
+        return gateway_frame::padding(at, at + 1);
     }
-    frame_answer::read(payload, at)
+    gateway_frame::read(payload, at)
 }
 
 // A step of the number ends: 0 send, 1 acknowledge, 2 read, 3 accept.

@@ -3,7 +3,7 @@ use crate::records::SampleAnswer;
 use crate::records::SplitAnswer;
 use crate::records::UnmaskAnswer;
 use coding::Place;
-use frame_answer::Span;
+use gateway_frame::Span;
 use packet::Decoded;
 use packet::Found;
 use packet::LongType;

@@ -1,7 +1,7 @@
 // What goes over the surface by value, laid out as in C. include/guobbarel.h has the same records, field by field.
 // An answer's refusal comes first: 0 for none, else document 01's number. What an answer does not have is 0.
-// A place and a frame's answer are `frame_answer`'s.
-use frame_answer::Span;
+// A place and a frame's answer are `gateway_frame`'s.
+use gateway_frame::Span;
 
 // A packet of a datagram. All but `packet`, which lies in the datagram, is counted from the packet's first byte.
 #[repr(C)]

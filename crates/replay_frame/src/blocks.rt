@@ -2,14 +2,14 @@
 use crate::shown;
 use ack::AckStep;
 use ack::Scanned;
+use cases::line;
+use cases::line::Answer;
+use cases::record::Numbers;
 use coding::Place;
 use coding::part;
 use coding::put_slice;
 use ecn::EcnCounts;
 use ecn::Raise;
-use records::line;
-use records::line::Answer;
-use records::record::Numbers;
 use shared::EcnCodepoint;
 use shared::EcnRead;
 use shared::FullNumber;

@@ -5,14 +5,14 @@ mod blocks; // blocks.rt: ACK blocks and ECN counts
 mod shown; // shown.rt: a frame's text
 mod walk; // walk.rt: the frames of a payload
 
+use cases::line;
+use cases::line::Answer;
+use cases::record;
+use cases::record::Turn;
 use coding::Place;
 use coding::part;
 use libc::STDIN_FILENO;
 use libc::STDOUT_FILENO;
-use records::line;
-use records::line::Answer;
-use records::record;
-use records::record::Turn;
 
 // The answer of an operation to a record's fields, put at a place of out.
 fn answer(op: u8, rec: &[u8], out: &mut [u8], at: usize) -> usize {

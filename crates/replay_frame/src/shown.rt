@@ -1,6 +1,7 @@
 // A frame's text: its name and its numbers; a place is its start and its length.
 use crate::blocks;
 use ack::AckStep;
+use cases::line;
 use coding::Place;
 use coding::Refusal;
 use coding::part;
@@ -10,7 +11,6 @@ use frame::AckEcn;
 use frame::Close;
 use frame::Frame;
 use frame::TypeRead;
-use records::line;
 use shared::Dir;
 use shared::FrameType;
 use shared::FullNumber;

@@ -1,11 +1,11 @@
 // The frames of a payload, one step after the other.
 use crate::shown;
 use crate::shown::Text;
+use cases::line;
+use cases::line::Answer;
 use coding::Refusal;
 use frame::FrameRead;
 use frame::FrameStep;
-use records::line;
-use records::line::Answer;
 
 // What a step of the walk says: the texts of its start and of itself, and where the next step is, where there is one; and what
 // the first says of the whole payload.

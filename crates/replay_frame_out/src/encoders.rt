@@ -1,4 +1,8 @@
 // The encoders, each into the record's last part as a lent buffer.
+use cases::line;
+use cases::line::Answer;
+use cases::record;
+use cases::record::Numbers;
 use coding::Place;
 use coding::U64Read;
 use coding::Wrote;
@@ -12,10 +16,6 @@ use frame::StopSending;
 use frame::TypeRead;
 use frame_out::CloseKind;
 use frame_out::StreamMeta;
-use records::line;
-use records::line::Answer;
-use records::record;
-use records::record::Numbers;
 use shared::ConnectionId;
 use shared::FrameType;
 use shared::StreamId;

@@ -1,12 +1,12 @@
 // The codecs of a frame type, a stream id and an error code; the sizes and SIZE_BOUNDs.
+use cases::line;
+use cases::line::Answer;
+use cases::record::Numbers;
 use coding::Refusal;
 use coding::Sized;
 use coding::VarRead;
 use frame_out::FrameTypeRead;
 use frame_out::StreamIdRead;
-use records::line;
-use records::line::Answer;
-use records::record::Numbers;
 
 fn frame_type(at: usize, b: &[u8]) -> Answer {
     let FrameTypeRead::Type(ty, next) = frame_out::decode_type(b, at) else {

@@ -4,15 +4,15 @@
 mod encoders; // encoders.rt: the encoders
 mod leaf; // leaf.rt: the codecs beside them, the sizes
 
+use cases::line;
+use cases::line::Answer;
+use cases::record;
+use cases::record::Numbers;
+use cases::record::Turn;
 use coding::Place;
 use coding::part;
 use libc::STDIN_FILENO;
 use libc::STDOUT_FILENO;
-use records::line;
-use records::line::Answer;
-use records::record;
-use records::record::Numbers;
-use records::record::Turn;
 
 // The operations that answer with a word and numbers.
 fn said(op: u8, ns: Numbers, b: &[u8]) -> Answer {

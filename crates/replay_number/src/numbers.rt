@@ -1,4 +1,8 @@
 // The operations of `number`: packet numbers cut and read back, and a run of steps over the two number ends.
+use cases::line;
+use cases::line::Answer;
+use cases::record::Numbers;
+use cases::record::lay;
 use coding::Place;
 use coding::U8Read;
 use coding::U32Read;
@@ -12,10 +16,6 @@ use number::SendAnswer;
 use number::Space;
 use number::SpaceAnswer;
 use number::Tagged;
-use records::line;
-use records::line::Answer;
-use records::record::Numbers;
-use records::record::lay;
 use shared::CutNumber;
 use shared::FullNumber;
 

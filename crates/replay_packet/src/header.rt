@@ -1,4 +1,6 @@
 // A header's text: its kind, what only that kind has, and what all have.
+use cases::line;
+use cases::line::Answer;
 use coding::Place;
 use coding::Refusal;
 use coding::part;
@@ -9,8 +11,6 @@ use packet::PayloadLen;
 use packet::ProtectedHeader;
 use packet::Space;
 use packet::SpaceId;
-use records::line;
-use records::line::Answer;
 use shared::ConnectionId;
 
 // The place of a kind's word among all of them; a refused header has none.

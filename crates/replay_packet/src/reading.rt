@@ -1,5 +1,9 @@
 // The operations of `packet`: header decode, split, the walk; and the dump's text.
 use crate::header;
+use cases::line;
+use cases::line::Answer;
+use cases::record;
+use cases::record::Numbers;
 use coding::Place;
 use coding::PlaceRead;
 use coding::U32Read;
@@ -11,10 +15,6 @@ use packet::Found;
 use packet::PartialDecode;
 use packet::ProtectedHeader;
 use packet::Rest;
-use records::line;
-use records::line::Answer;
-use records::record;
-use records::record::Numbers;
 ghost use Prim.Native.Nat.{_≤_};
 ghost use lib.ListN.{length};
 

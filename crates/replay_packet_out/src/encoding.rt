@@ -1,4 +1,8 @@
 // A record's header, and its encoding. The header's numbers and parts stand in the order of the oracle's table of kinds.
+use cases::line;
+use cases::line::Answer;
+use cases::record;
+use cases::record::Numbers;
 use coding::Place;
 use coding::part;
 use coding::put_slice;
@@ -6,10 +10,6 @@ use packet::LongType;
 use packet_out::Encoded;
 use packet_out::Header;
 use protect::NumberLen;
-use records::line;
-use records::line::Answer;
-use records::record;
-use records::record::Numbers;
 use shared::ConnectionId;
 use shared::CutNumber;
 ghost use Prim.Native.Nat.{_≤_};

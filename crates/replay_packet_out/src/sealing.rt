@@ -1,5 +1,8 @@
 // The Length step, the mask step, and all from a header to a protected packet. What encrypts is a XOR with one byte.
 use crate::encoding;
+use cases::line;
+use cases::line::Answer;
+use cases::record;
 use coding::Place;
 use coding::U8Read;
 use coding::part;
@@ -9,10 +12,7 @@ use packet_out::LengthSet;
 use packet_out::PartialEncode;
 use protect::Masked;
 use protect::NumberLen;
-use records::line;
-use records::line::Answer;
-use records::record;
-ghost use Rattle.records.specs.Records.{Counts};
+ghost use Rattle.cases.specs.Records.{Counts};
 
 // What a record says of a header: its length, its number's, where it has one, and whether it has a Length.
 fn partial(rec: &[u8]) -> PartialEncode {

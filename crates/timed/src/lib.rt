@@ -20,7 +20,7 @@ ghost use mathlib.Core.Option.{none};
 ghost use lib.ListN.{length};
 ghost use lib.Dec.{eqb};
 ghost use Rattle.coding.specs.Said.{wroteOf};
-ghost use Rattle.frame_write.specs.Writing.{number};
+ghost use Rattle.row_out.specs.Writing.{number};
 ghost use Rattle.frame_out.specs.Frames.{metaOut, cryptoOut, resetStreamOut, newCidOut};
 ghost use Rattle.frame_out.specs.Closes.{connection, closeOut};
 ghost use Rattle.ack_out.specs.Acks.{ackOut};

@@ -2,7 +2,7 @@ use mathlib.Core.List.{[]}
 use native.Mathlib.Omega.{arith}
 use Rattle.coding.specs.Said.{sizedOf}
 use Rattle.coding.specs.Writing.{lengthOf}
-use Rattle.frame_write.proofs.Laws.{size-held, size-not}
+use Rattle.row_out.proofs.Laws.{size-held, size-not}
 use Rattle.ack_out.proofs.Frames.{many-no, head-no, counts-no, long-no, all-ok, length-all}
 use borrow.Author.Needs.{needs}
 use Rattle.ack_out.proofs.frame_len.Statement.{statement}

@@ -1,5 +1,5 @@
 use Rattle.coding.proofs.Writes.{put-none}
-use Rattle.frame_write.specs.Limits.{stored}
+use Rattle.row_out.specs.Limits.{stored}
 use Rattle.ack_out.specs.Acks.{countsOf}
 use Rattle.ack_out.proofs.Frames.{no-counts}
 use borrow.Author.Needs.{needs}

@@ -7,7 +7,7 @@ use mathlib.Core.List.{_++_}
 use Rattle.coding.specs.Said.{wroteOf}
 use Rattle.coding.proofs.Writes.{written-no, written-short, written-ok}
 use Rattle.shared.specs.Cid.{longBytes}
-use Rattle.frame_write.proofs.Laws.{length-out, out-ok, size-held, size-not}
+use Rattle.row_out.proofs.Laws.{length-out, out-ok, size-held, size-not}
 use Rattle.frame_out.proofs.Vals.{id-held, id-puts}
 use Rattle.frame_out.proofs.frame_with_id.Statement.{statement}
 use Rattle.frame_out.proofs.frame_with_id.Tie as tie

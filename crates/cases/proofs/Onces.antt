@@ -1,0 +1,106 @@
+-- Only one answer, and only one content of each lent buffer, meets the contract of each public function. Assumes nothing.
+use mathlib.Core.Path.{_≡_, refl, sym, _∙_}
+use mathlib.Core.List.{List}
+use Prim.Native.Nat.{ℕ}
+use denote.Ref.{now}
+use Rattle.coding.specs.Once.{Once}
+use Rattle.coding.proofs.Onces.{seen, one-part, one-put}
+use Rattle.text.proofs.Puts.{one-text}
+use Rattle.cases.specs.Records.{Case, asked, ended, stopped}
+use Rattle.cases.specs.Said.{turnOf}
+use Rattle.cases.specs.declared.record.Turn.{Turn}
+use Rattle.cases.specs.declared.record.Turn.the-variants as turn
+use Rattle.cases.proofs.record.head as head
+use Rattle.cases.proofs.record.head.Reads as head-reads
+use Rattle.cases.proofs.record.numbers_of as numbers-of
+use Rattle.cases.proofs.record.numbers_of.Reads as numbers-of-reads
+use Rattle.cases.proofs.record.bytes as bytes
+use Rattle.cases.proofs.record.bytes.Reads as bytes-reads
+use Rattle.cases.proofs.record.lay as lay
+use Rattle.cases.proofs.record.lay.Reads as lay-reads
+use Rattle.cases.proofs.line.num as num
+use Rattle.cases.proofs.line.num.Reads as num-reads
+use Rattle.cases.proofs.line.hex as hex
+use Rattle.cases.proofs.line.hex.Reads as hex-reads
+use Rattle.cases.proofs.line.and_num as and-num
+use Rattle.cases.proofs.line.and_num.Reads as and-num-reads
+use Rattle.cases.proofs.line.and_hex as and-hex
+use Rattle.cases.proofs.line.and_hex.Reads as and-hex-reads
+use Rattle.cases.proofs.line.and_nums as and-nums
+use Rattle.cases.proofs.line.and_nums.Reads as and-nums-reads
+use Rattle.cases.proofs.line.say as say
+use Rattle.cases.proofs.line.say.Reads as say-reads
+use Rattle.cases.proofs.line.written as written
+use Rattle.cases.proofs.line.written.Reads as written-reads
+use Rattle.cases.proofs.line.wrote as wrote
+use Rattle.cases.proofs.line.wrote.Reads as wrote-reads
+use Rattle.cases.proofs.line.end as end
+use Rattle.cases.proofs.line.end.Reads as end-reads
+
+-- ---- records
+
+-- what a turn says settles it
+back : Case → Turn
+back (asked op len) = turn.Record op len
+back ended = turn.End
+back stopped = turn.Cut
+
+back-of : (t : Turn) → back (turnOf t) ≡ t
+unfolding turnOf back
+back-of (turn.Record op len) = refl
+back-of turn.End = refl
+back-of turn.Cut = refl
+
+head-once : Once head.ended head-reads.Post (λ κs x s. x)
+unfolding Once
+head-once κs a x y s t p q = sym (back-of x) ∙ (λ i. back ((p ∙ sym q) i)) ∙ back-of y
+
+numbers-of-once : Once numbers-of.ended numbers-of-reads.Post (λ κs x s. x)
+unfolding Once
+numbers-of-once κs a x y s t p q = p ∙ sym q
+
+bytes-once : Once bytes.ended bytes-reads.Post (λ κs x s. seen x)
+unfolding Once
+bytes-once κs a x y s t p q = one-part _ x y _ _ p q
+
+lay-once : Once {B = ℕ × List ℕ} lay.ended lay-reads.Post (λ κs x s. (x, now (s .0)))
+unfolding Once
+lay-once κs a x y s t p q = one-put _ _ _ x y _ _ (p .put) (q .put)
+
+-- ---- lines
+
+num-once : Once {B = ℕ × List ℕ} num.ended num-reads.Post (λ κs x s. (x, now (s .0)))
+unfolding Once
+num-once κs a x y s t p q = one-text _ _ _ x y _ _ p q
+
+hex-once : Once {B = ℕ × List ℕ} hex.ended hex-reads.Post (λ κs x s. (x, now (s .0)))
+unfolding Once
+hex-once κs a x y s t p q = one-text _ _ _ x y _ _ p q
+
+and-num-once : Once {B = ℕ × List ℕ} and-num.ended and-num-reads.Post (λ κs x s. (x, now (s .0)))
+unfolding Once
+and-num-once κs a x y s t p q = one-text _ _ _ x y _ _ p q
+
+and-hex-once : Once {B = ℕ × List ℕ} and-hex.ended and-hex-reads.Post (λ κs x s. (x, now (s .0)))
+unfolding Once
+and-hex-once κs a x y s t p q = one-text _ _ _ x y _ _ p q
+
+and-nums-once : Once {B = ℕ × List ℕ} and-nums.ended and-nums-reads.Post (λ κs x s. (x, now (s .0)))
+unfolding Once
+and-nums-once κs a x y s t p q = one-text _ _ _ x y _ _ p q
+
+say-once : Once {B = ℕ × List ℕ} say.ended say-reads.Post (λ κs x s. (x, now (s .0)))
+unfolding Once
+say-once κs a x y s t p q = one-text _ _ _ x y _ _ p q
+
+written-once : Once written.ended written-reads.Post (λ κs x s. x)
+unfolding Once
+written-once κs a x y s t p q = p ∙ sym q
+
+wrote-once : Once {B = ℕ × List ℕ} wrote.ended wrote-reads.Post (λ κs x s. (x, now (s .0)))
+unfolding Once
+wrote-once κs a x y s t p q = one-text _ _ _ x y _ _ p q
+
+end-once : Once {B = ℕ × List ℕ} end.ended end-reads.Post (λ κs x s. (x, now (s .0)))
+unfolding Once
+end-once κs a x y s t p q = one-text _ _ _ x y _ _ p q

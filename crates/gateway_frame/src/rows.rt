@@ -1,0 +1,255 @@
+// A frame's name, and its values in the order of its row in the table of frames.
+use crate::records::FrameValue;
+use crate::records::Span;
+use coding::Place;
+use frame::Ack;
+use frame::AckEcn;
+use frame::Close;
+use frame::Frame;
+use frame::NewConnectionId;
+use frame::Stream;
+use frame::TypeRead;
+use shared::Dir;
+ghost use mathlib.Core.Path.{_≡_};
+ghost use mathlib.Core.List.{[], _∷_};
+ghost use Rattle.shared.specs.Said.{dirBit};
+ghost use Rattle.frame.specs.Format.{num, place, said};
+ghost use Rattle.frame.specs.Table.{flag};
+ghost use Rattle.frame.specs.Said.{typeValue, closeSaid, frameSaid};
+ghost use Rattle.gateway_frame.specs.Frames.{noValue, valueOf, rowWith, rowOf};
+
+// A frame's name and its values; nothing past the last.
+pub(crate) struct Row {
+    pub(crate) name: u64,
+    pub(crate) value0: FrameValue,
+    pub(crate) value1: FrameValue,
+    pub(crate) value2: FrameValue,
+    pub(crate) value3: FrameValue,
+    pub(crate) value4: FrameValue,
+    pub(crate) value5: FrameValue,
+}
+
+// What a value of a row is: nothing, a number, a place; a bool and a direction as numbers.
+pub(crate) fn nothing() -> FrameValue
+    ensures { λ r. ⌜ r ≡ noValue ⌝ }
+{
+    FrameValue {
+        kind: 0,
+        number: 0,
+        place: Span { start: 0, len: 0 },
+    }
+}
+
+fn number(n: u64) -> FrameValue
+    ensures { λ r. ⌜ r ≡ valueOf (num n) ⌝ }
+{
+    FrameValue {
+        kind: 1,
+        number: n,
+        place: Span { start: 0, len: 0 },
+    }
+}
+
+fn part(p: Place) -> FrameValue
+    ensures { λ r. ⌜ r ≡ valueOf (place p) ⌝ }
+{
+    FrameValue {
+        kind: 2,
+        number: 0,
+        place: Span {
+            start: p.start,
+            len: p.len,
+        },
+    }
+}
+
+fn bit(b: bool) -> u64
+    ensures { λ r. ⌜ r ≡ flag b ⌝ }
+{
+    if b { 1 } else { 0 }
+}
+
+fn way(dir: Dir) -> u64
+    ensures { λ r. ⌜ r ≡ dirBit dir ⌝ }
+{
+    match dir {
+        Dir::Bi => 0,
+        Dir::Uni => 1,
+    }
+}
+
+fn type_value(ty: TypeRead) -> FrameValue
+    ensures { λ r. ⌜ r ≡ valueOf (typeValue ty) ⌝ }
+{
+    match ty {
+        TypeRead::Type(t) => number(t.0),
+        TypeRead::Nothing => nothing(),
+    }
+}
+
+// Rows of up to four values.
+fn row4(name: u64, a: FrameValue, b: FrameValue, c: FrameValue, d: FrameValue) -> Row
+    ensures { λ r. ⌜ r ≡ rowWith name (a ∷ b ∷ c ∷ d ∷ []) ⌝ }
+{
+    Row {
+        name,
+        value0: a,
+        value1: b,
+        value2: c,
+        value3: d,
+        value4: nothing(),
+        value5: nothing(),
+    }
+}
+
+fn row3(name: u64, a: FrameValue, b: FrameValue, c: FrameValue) -> Row
+    ensures { λ r. ⌜ r ≡ rowWith name (a ∷ b ∷ c ∷ []) ⌝ }
+{
+    row4(name, a, b, c, nothing())
+}
+
+fn row2(name: u64, a: FrameValue, b: FrameValue) -> Row
+    ensures { λ r. ⌜ r ≡ rowWith name (a ∷ b ∷ []) ⌝ }
+{
+    row3(name, a, b, nothing())
+}
+
+fn row1(name: u64, a: FrameValue) -> Row
+    ensures { λ r. ⌜ r ≡ rowWith name (a ∷ []) ⌝ }
+{
+    row2(name, a, nothing())
+}
+
+fn row0(name: u64) -> Row
+    ensures { λ r. ⌜ r ≡ rowWith name [] ⌝ }
+{
+    row1(name, nothing())
+}
+
+// Rows of numbers alone.
+fn numbers1(name: u64, a: u64) -> Row
+    ensures { λ r. ⌜ r ≡ rowOf (said name (num a ∷ [])) ⌝ }
+{
+    row1(name, number(a))
+}
+
+fn numbers2(name: u64, a: u64, b: u64) -> Row
+    ensures { λ r. ⌜ r ≡ rowOf (said name (num a ∷ num b ∷ [])) ⌝ }
+{
+    row2(name, number(a), number(b))
+}
+
+fn numbers3(name: u64, a: u64, b: u64, c: u64) -> Row
+    ensures { λ r. ⌜ r ≡ rowOf (said name (num a ∷ num b ∷ num c ∷ [])) ⌝ }
+{
+    row3(name, number(a), number(b), number(c))
+}
+
+fn numbers4(name: u64, a: u64, b: u64, c: u64, d: u64) -> Row
+    ensures { λ r. ⌜ r ≡ rowOf (said name (num a ∷ num b ∷ num c ∷ num d ∷ [])) ⌝ }
+{
+    row4(name, number(a), number(b), number(c), number(d))
+}
+
+// A number, and a place after it.
+fn number_part(name: u64, n: u64, p: Place) -> Row
+    ensures { λ r. ⌜ r ≡ rowOf (said name (num n ∷ place p ∷ [])) ⌝ }
+{
+    row2(name, number(n), part(p))
+}
+
+fn ack_row(x: Ack) -> Row
+    ensures { λ r. ⌜ r ≡ rowOf (frameSaid (Frame.Ack x)) ⌝ }
+{
+    let ecn = x.ecn;
+    let largest = number(x.largest.0);
+    let delay = number(x.delay);
+    let blocks = part(x.additional);
+    match ecn {
+        AckEcn::Nothing => row3(0x02, largest, delay, blocks),
+        AckEcn::Counts(counts) => Row {
+            name: 0x02,
+            value0: largest,
+            value1: delay,
+            value2: blocks,
+            value3: number(counts.ect0),
+            value4: number(counts.ect1),
+            value5: number(counts.ce),
+        },
+    }
+}
+
+fn stream_row(x: Stream) -> Row
+    ensures { λ r. ⌜ r ≡ rowOf (frameSaid (Frame.Stream x)) ⌝ }
+{
+    Row {
+        name: 0x08,
+        value0: number(x.id.0),
+        value1: number(x.offset),
+        value2: number(bit(x.fin)),
+        value3: number(bit(x.len)),
+        value4: part(x.data),
+        value5: nothing(),
+    }
+}
+
+fn new_cid_row(x: NewConnectionId) -> Row
+    ensures { λ r. ⌜ r ≡ rowOf (frameSaid (Frame.NewConnectionId x)) ⌝ }
+{
+    row4(
+        0x18,
+        number(x.sequence),
+        number(x.retire_prior_to),
+        part(x.id),
+        part(x.reset_token),
+    )
+}
+
+fn close_row(x: Close) -> Row
+    ensures { λ r. ⌜ r ≡ rowOf (closeSaid x) ⌝ }
+{
+    match x {
+        Close::Connection(c) => {
+            let ty = c.frame_type;
+            row3(0x1c, number(c.error_code), type_value(ty), part(c.reason))
+        }
+        Close::Application(c) => number_part(0x1d, c.error_code, c.reason),
+    }
+}
+
+// A frame by its row.
+pub(crate) fn row_of(frame: Frame) -> Row
+    ensures { λ r. ⌜ r ≡ rowOf (frameSaid frame) ⌝ }
+{
+    match frame {
+        Frame::Padding => row0(0x00),
+        Frame::Ping => row0(0x01),
+        Frame::Ack(x) => ack_row(x),
+        Frame::ResetStream(x) => numbers3(0x04, x.id.0, x.error_code, x.final_offset),
+        Frame::StopSending(x) => numbers2(0x05, x.id.0, x.error_code),
+        Frame::Crypto(x) => number_part(0x06, x.offset, x.data),
+        Frame::NewToken(x) => row1(0x07, part(x.token)),
+        Frame::Stream(x) => stream_row(x),
+        Frame::MaxData(n) => numbers1(0x10, n),
+        Frame::MaxStreamData { id, offset } => numbers2(0x11, id.0, offset),
+        Frame::MaxStreams { dir, count } => numbers2(0x12, way(dir), count),
+        Frame::DataBlocked { offset } => numbers1(0x14, offset),
+        Frame::StreamDataBlocked { id, offset } => numbers2(0x15, id.0, offset),
+        Frame::StreamsBlocked { dir, limit } => numbers2(0x16, way(dir), limit),
+        Frame::NewConnectionId(x) => new_cid_row(x),
+        Frame::RetireConnectionId { sequence } => numbers1(0x19, sequence),
+        Frame::PathChallenge(n) => numbers1(0x1a, n),
+        Frame::PathResponse(n) => numbers1(0x1b, n),
+        Frame::Close(x) => close_row(x),
+        Frame::Datagram(x) => number_part(0x30, bit(x.len), x.data),
+        Frame::AckFrequency(x) => numbers4(
+            0xaf,
+            x.sequence,
+            x.ack_eliciting_threshold,
+            x.request_max_ack_delay,
+            x.reordering_threshold,
+        ),
+        Frame::ImmediateAck => row0(0x1f),
+        Frame::HandshakeDone => row0(0x1e),
+    }
+}
