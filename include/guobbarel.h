@@ -201,11 +201,11 @@ typedef struct guobbarel_number_answer {
 } guobbarel_number_answer;
 
 /* One step of the ends. What a step does not use (`number` or the cut number) is not looked at. Refused 14 for a step above 3,
- * either flag not 0 or 1, and a number or cut number outside its rule; a send then 16 where the next number is 2^31 or more above the
- * largest acknowledged (0 when none).
- * Ends that no steps can have made are refused 14 too, but only in the half that the step looks at: a send and an acknowledge look at
- * `next` and `acked` (a next above 2^62, an acked number that is not below next), a read and an accept at `largest` (above 2^62 - 1).
- * The other half is not judged. A send of next = 2^62 is 14: all numbers are used up. */
+ * either flag not 0 or 1, and a number or cut number outside its rule; a send then 16 where the next number is 2^31 or more above
+ * the largest acknowledged (0 when none).
+ * Ends that no steps can have made are refused 14 too, but only in the half that the step looks at: a send and an acknowledge look
+ * at `next` and `acked` (14 for a next above 2^62, and for an acked number that is not below next), a read and an accept at
+ * `largest` (14 above 2^62 - 1). The other half is not judged. A send of next = 2^62 is 14: all numbers are used up. */
 guobbarel_number_answer guobbarel_number_step(uint8_t step, guobbarel_number_ends ends, uint64_t number, size_t number_len,
                                               uint32_t number_value);
 

@@ -4,6 +4,7 @@
 //! its element, and a `&mut` slice overlaps no other; and because every function of the archive is proved to stay inside what it
 //! is lent, for all arguments.
 #![allow(unsafe_code)]
+use core::mem::{offset_of, size_of};
 use core::ops::Range;
 
 /// `guobbarel_span`
@@ -124,6 +125,36 @@ pub(crate) struct HeaderAnswer {
     pub(crate) header_len: usize,
     pub(crate) number_len: usize,
 }
+
+/// Holds a record to its layout, or it does not compile: its bytes, and of each field, of which none may be left out, the place and
+/// the bytes. The numbers are those of include/guobbarel.h; tests/layout.rs derives them from the Rattle records.
+macro_rules! layout {
+    ($record:ident $size:literal: $($field:ident $place:literal $bytes:literal),*) => {
+        const _: () = {
+            let _all = |x: $record| { let $record { $($field: _),* } = x; };
+            assert!(size_of::<$record>() == $size);
+            $(assert!(offset_of!($record, $field) == $place && bytes_of(|x: &$record| &x.$field) == $bytes);)*
+        };
+    };
+}
+
+const fn bytes_of<R, F>(_: fn(&R) -> &F) -> usize {
+    size_of::<F>()
+}
+
+layout!(Span 16: start 0 8, len 8 8);
+layout!(SplitAnswer 88: refusal 0 1, kind 1 1, spin 2 1, random 3 1, version 4 4, packet 8 16, number_offset 24 8, length 32 8,
+    token 40 16, dst_cid 56 16, src_cid 72 16);
+layout!(SampleAnswer 24: refusal 0 1, sample 8 16);
+layout!(UnmaskAnswer 48: refusal 0 1, reserved_clear 1 1, key_phase 2 1, number_value 4 4, number_len 8 8, header 16 16,
+    payload 32 16);
+layout!(FrameValue 32: kind 0 1, number 8 8, place 16 16);
+layout!(FrameAnswer 232: refusal 0 1, found 1 1, has_type 2 1, start 8 8, next 16 8, frame_type 24 8, name 32 8,
+    value 40 192);
+layout!(NumberEnds 32: next 0 8, acked 8 8, largest 16 8, has_acked 24 1, has_largest 25 1);
+layout!(NumberAnswer 56: refusal 0 1, number_value 4 4, number_len 8 8, number 16 8, ends 24 32);
+layout!(HeaderGiven 24: kind 0 1, spin 1 1, key_phase 2 1, random 3 1, version 4 4, number_value 8 4, number_len 16 8);
+layout!(HeaderAnswer 24: refusal 0 1, has_length 1 1, header_len 8 8, number_len 16 8);
 
 unsafe extern "C" {
     fn guobbarel_split(
