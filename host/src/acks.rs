@@ -1,4 +1,4 @@
-//! The ranges of an ACK frame (RFC 9000, 19.3.1).
+//! The ranges of an ACK frame (RFC 9000, 19.3.1). This is Rust of our own, and not proved: no export of `libgateway.a` reads them.
 use crate::{Error, FullNumber};
 
 const MAX_PAYLOAD: usize = 65_527;
@@ -15,6 +15,9 @@ pub struct AckRange {
 
 /// The ranges of ACK blocks, the one with the largest numbers first. Over the blocks of an [`crate::Ack`] that was read no step
 /// is refused; over other bytes a refusal is the last item.
+///
+/// That the blocks of an ACK hold as many ranges as it says, none cut and none below 0, is proved of `libgateway.a`, which scanned
+/// them. This reader of them is not proved: it is run beside quinn's AckIter.
 #[derive(Clone, Debug)]
 pub struct AckRanges<'a> {
     largest: u64,

@@ -1,6 +1,6 @@
 //! From a payload in the clear to its frames (RFC 9000, 19; RFC 9221; the ACK frequency draft).
 use crate::acks::AckRanges;
-use crate::ffi::{self, FrameAnswer};
+use crate::ffi::{self, FrameAnswer, FrameValue};
 use crate::{Error, FrameType, FullNumber, StreamId};
 
 /// The ECN counts of an ACK.
@@ -32,60 +32,206 @@ impl<'a> Ack<'a> {
     pub fn ranges(&self) -> AckRanges<'a> {
         AckRanges::new(self.largest, self.blocks)
     }
+
+    /// From the record; its last three values are the ECN counts, or nothing.
+    #[inline(always)]
+    fn of(value: &[FrameValue; 6], payload: &'a [u8]) -> Self {
+        let number = |i: usize| value[i].number;
+        Ack {
+            largest: FullNumber::new(number(0)),
+            delay: number(1),
+            blocks: value[2].place.of(payload),
+            ecn: (value[3].kind != 0).then(|| EcnCounts { ect0: number(3), ect1: number(4), ce: number(5) }),
+        }
+    }
+
+    fn values(&self) -> [Value<'a>; 6] {
+        let [ect0, ect1, ce] = self.ecn.map_or([Value::Nothing; 3], |x| [x.ect0, x.ect1, x.ce].map(Value::Number));
+        [Value::Number(self.largest.get()), Value::Number(self.delay), Value::Part(self.blocks), ect0, ect1, ce]
+    }
 }
 
-/// A frame. Its data, reason, token and ids are parts of the payload.
-#[derive(Clone, Copy, Debug, PartialEq, Eq)]
-#[allow(missing_docs)] // the fields have RFC 9000's names
-pub enum Frame<'a> {
+/// Makes, of one list, the enum of frames, how each is read from the C record, and what each says as plain values. A row has the
+/// first type of a kind of frame, its name, and its fields in the order of the record's values; an ACK, whose last three come or
+/// go together, is a struct of its own.
+macro_rules! frames {
+    ($(
+        $(#[$doc:meta])*
+        $first:literal $name:ident $(($whole:ident: $inner:ty))? $({ $($field:ident: $ty:ty),* })?,
+    )*) => {
+        /// A frame. Its data, reason, token and ids are parts of the payload.
+        #[derive(Clone, Copy, Debug, PartialEq, Eq)]
+        #[allow(missing_docs)] // the fields have RFC 9000's names
+        pub enum Frame<'a> {
+            $($(#[$doc])* $name $(($inner))? $({ $($field: $ty),* })?,)*
+        }
+
+        impl<'a> Frame<'a> {
+            /// Every kind of frame, by its first type, in ascending order.
+            pub const KINDS: &'static [FrameType] = &[$(FrameType::new($first)),*];
+
+            /// The first type of its kind.
+            pub const fn kind(&self) -> FrameType {
+                match self {
+                    $(Frame::$name { .. } => FrameType::new($first),)*
+                }
+            }
+
+            /// What it says, value after value as in `include/guobbarel.h`; past the last there is nothing.
+            pub fn values(&self) -> [Value<'a>; 6] {
+                let mut said = [Value::Nothing; 6];
+                match *self {
+                    $(Frame::$name $(($whole))? $({ $($field),* })? => {
+                        $(said = $whole.values();)?
+                        $(said.iter_mut().zip([$($field.value()),*]).for_each(|(at, value)| *at = value);)?
+                    })*
+                }
+                said
+            }
+
+            /// The frame of an answer, by its name; none for a name that no frame has, which no answer says.
+            #[inline(always)]
+            fn of(a: &FrameAnswer, payload: &'a [u8]) -> Option<Self> {
+                let mut at = 0;
+                let mut next = || {
+                    at += 1;
+                    &a.value[at - 1]
+                };
+                Some(match a.name {
+                    $($first => {
+                        Frame::$name $((<$inner>::of(&a.value, payload)))? $({ $($field: Field::of(next(), payload)),* })?
+                    })*
+                    _ => return None,
+                })
+            }
+        }
+    };
+}
+
+frames! {
     /// PADDING.
-    Padding,
+    0x00 Padding,
     /// PING.
-    Ping,
+    0x01 Ping,
     /// ACK.
-    Ack(Ack<'a>),
+    0x02 Ack(ack: Ack<'a>),
     /// RESET_STREAM.
-    ResetStream { id: StreamId, error_code: u64, final_size: u64 },
+    0x04 ResetStream { id: StreamId, error_code: u64, final_size: u64 },
     /// STOP_SENDING.
-    StopSending { id: StreamId, error_code: u64 },
+    0x05 StopSending { id: StreamId, error_code: u64 },
     /// CRYPTO.
-    Crypto { offset: u64, data: &'a [u8] },
+    0x06 Crypto { offset: u64, data: &'a [u8] },
     /// NEW_TOKEN.
-    NewToken { token: &'a [u8] },
+    0x07 NewToken { token: &'a [u8] },
     /// STREAM, and whether a length stood before its data.
-    Stream { id: StreamId, offset: u64, fin: bool, has_length: bool, data: &'a [u8] },
+    0x08 Stream { id: StreamId, offset: u64, fin: bool, has_length: bool, data: &'a [u8] },
     /// MAX_DATA.
-    MaxData { maximum: u64 },
+    0x10 MaxData { maximum: u64 },
     /// MAX_STREAM_DATA.
-    MaxStreamData { id: StreamId, maximum: u64 },
+    0x11 MaxStreamData { id: StreamId, maximum: u64 },
     /// MAX_STREAMS, of streams that go one way or both.
-    MaxStreams { one_way: bool, maximum: u64 },
+    0x12 MaxStreams { one_way: bool, maximum: u64 },
     /// DATA_BLOCKED.
-    DataBlocked { limit: u64 },
+    0x14 DataBlocked { limit: u64 },
     /// STREAM_DATA_BLOCKED.
-    StreamDataBlocked { id: StreamId, limit: u64 },
+    0x15 StreamDataBlocked { id: StreamId, limit: u64 },
     /// STREAMS_BLOCKED, of streams that go one way or both.
-    StreamsBlocked { one_way: bool, limit: u64 },
+    0x16 StreamsBlocked { one_way: bool, limit: u64 },
     /// NEW_CONNECTION_ID; the reset token has 16 bytes.
-    NewConnectionId { sequence: u64, retire_prior_to: u64, id: &'a [u8], reset_token: &'a [u8] },
+    0x18 NewConnectionId { sequence: u64, retire_prior_to: u64, id: &'a [u8], reset_token: &'a [u8] },
     /// RETIRE_CONNECTION_ID.
-    RetireConnectionId { sequence: u64 },
+    0x19 RetireConnectionId { sequence: u64 },
     /// PATH_CHALLENGE: its eight bytes as a number, most significant first.
-    PathChallenge { data: u64 },
+    0x1a PathChallenge { data: u64 },
     /// PATH_RESPONSE.
-    PathResponse { data: u64 },
+    0x1b PathResponse { data: u64 },
     /// CONNECTION_CLOSE of the transport; type 0 reads as none.
-    ConnectionClose { error_code: u64, frame_type: Option<FrameType>, reason: &'a [u8] },
+    0x1c ConnectionClose { error_code: u64, frame_type: Option<FrameType>, reason: &'a [u8] },
     /// CONNECTION_CLOSE of the application.
-    ApplicationClose { error_code: u64, reason: &'a [u8] },
+    0x1d ApplicationClose { error_code: u64, reason: &'a [u8] },
     /// HANDSHAKE_DONE.
-    HandshakeDone,
+    0x1e HandshakeDone,
     /// IMMEDIATE_ACK.
-    ImmediateAck,
+    0x1f ImmediateAck,
     /// DATAGRAM, and whether a length stood before its data.
-    Datagram { has_length: bool, data: &'a [u8] },
+    0x30 Datagram { has_length: bool, data: &'a [u8] },
     /// ACK_FREQUENCY.
-    AckFrequency { sequence: u64, threshold: u64, max_delay: u64, reordering: u64 },
+    0xaf AckFrequency { sequence: u64, threshold: u64, max_delay: u64, reordering: u64 },
+}
+
+/// What a frame says at one place of its list of values.
+#[derive(Clone, Copy, Debug, PartialEq, Eq)]
+pub enum Value<'a> {
+    /// Nothing, where it may be missing or past the last.
+    Nothing,
+    /// A number; a flag is 0 or 1.
+    Number(u64),
+    /// A part of the payload.
+    Part(&'a [u8]),
+}
+
+/// What may stand in a row of the list: one value of the record.
+trait Field<'a> {
+    /// From the record.
+    fn of(value: &FrameValue, payload: &'a [u8]) -> Self;
+
+    /// As a plain value.
+    fn value(self) -> Value<'a>;
+}
+
+impl<'a> Field<'a> for u64 {
+    #[inline(always)]
+    fn of(value: &FrameValue, _: &'a [u8]) -> Self {
+        value.number
+    }
+
+    fn value(self) -> Value<'a> {
+        Value::Number(self)
+    }
+}
+
+impl<'a> Field<'a> for bool {
+    #[inline(always)]
+    fn of(value: &FrameValue, _: &'a [u8]) -> Self {
+        value.number == 1
+    }
+
+    fn value(self) -> Value<'a> {
+        Value::Number(self.into())
+    }
+}
+
+impl<'a> Field<'a> for StreamId {
+    #[inline(always)]
+    fn of(value: &FrameValue, _: &'a [u8]) -> Self {
+        StreamId::new(value.number)
+    }
+
+    fn value(self) -> Value<'a> {
+        Value::Number(self.get())
+    }
+}
+
+impl<'a> Field<'a> for Option<FrameType> {
+    #[inline(always)]
+    fn of(value: &FrameValue, _: &'a [u8]) -> Self {
+        (value.kind != 0).then(|| FrameType::new(value.number))
+    }
+
+    fn value(self) -> Value<'a> {
+        self.map_or(Value::Nothing, |ty| Value::Number(ty.get()))
+    }
+}
+
+impl<'a> Field<'a> for &'a [u8] {
+    #[inline(always)]
+    fn of(value: &FrameValue, payload: &'a [u8]) -> Self {
+        value.place.of(payload)
+    }
+
+    fn value(self) -> Value<'a> {
+        Value::Part(self)
+    }
 }
 
 /// A frame that was read.
@@ -141,7 +287,7 @@ impl<'a> Iterator for Frames<'a> {
             let ty = (a.has_type == 1).then(|| FrameType::new(a.frame_type));
             return Some(Err(FrameRefused { error, start: a.start, ty }));
         }
-        let Some(frame) = (a.found == 1).then(|| frame(&a, self.payload)).flatten() else {
+        let Some(frame) = (a.found == 1).then(|| Frame::of(&a, self.payload)).flatten() else {
             self.ended = true;
             return None;
         };
@@ -152,59 +298,3 @@ impl<'a> Iterator for Frames<'a> {
 }
 
 impl core::iter::FusedIterator for Frames<'_> {}
-
-/// The frame of an answer, by its name; none for a name that no frame has, which no answer says.
-#[inline(always)]
-fn frame<'a>(a: &FrameAnswer, payload: &'a [u8]) -> Option<Frame<'a>> {
-    let number = |i: usize| a.value[i].number;
-    let id = |i: usize| StreamId::new(number(i));
-    let flag = |i: usize| number(i) == 1;
-    let there = |i: usize| a.value[i].kind != 0;
-    let part = |i: usize| a.value[i].place.of(payload);
-    Some(match a.name {
-        0x00 => Frame::Padding,
-        0x01 => Frame::Ping,
-        0x02 => Frame::Ack(Ack {
-            largest: FullNumber::new(number(0)),
-            delay: number(1),
-            blocks: part(2),
-            ecn: there(3).then(|| EcnCounts { ect0: number(3), ect1: number(4), ce: number(5) }),
-        }),
-        0x04 => Frame::ResetStream { id: id(0), error_code: number(1), final_size: number(2) },
-        0x05 => Frame::StopSending { id: id(0), error_code: number(1) },
-        0x06 => Frame::Crypto { offset: number(0), data: part(1) },
-        0x07 => Frame::NewToken { token: part(0) },
-        0x08 => Frame::Stream { id: id(0), offset: number(1), fin: flag(2), has_length: flag(3), data: part(4) },
-        0x10 => Frame::MaxData { maximum: number(0) },
-        0x11 => Frame::MaxStreamData { id: id(0), maximum: number(1) },
-        0x12 => Frame::MaxStreams { one_way: flag(0), maximum: number(1) },
-        0x14 => Frame::DataBlocked { limit: number(0) },
-        0x15 => Frame::StreamDataBlocked { id: id(0), limit: number(1) },
-        0x16 => Frame::StreamsBlocked { one_way: flag(0), limit: number(1) },
-        0x18 => Frame::NewConnectionId {
-            sequence: number(0),
-            retire_prior_to: number(1),
-            id: part(2),
-            reset_token: part(3),
-        },
-        0x19 => Frame::RetireConnectionId { sequence: number(0) },
-        0x1a => Frame::PathChallenge { data: number(0) },
-        0x1b => Frame::PathResponse { data: number(0) },
-        0x1c => Frame::ConnectionClose {
-            error_code: number(0),
-            frame_type: there(1).then(|| FrameType::new(number(1))),
-            reason: part(2),
-        },
-        0x1d => Frame::ApplicationClose { error_code: number(0), reason: part(1) },
-        0x1e => Frame::HandshakeDone,
-        0x1f => Frame::ImmediateAck,
-        0x30 => Frame::Datagram { has_length: flag(0), data: part(1) },
-        0xaf => Frame::AckFrequency {
-            sequence: number(0),
-            threshold: number(1),
-            max_delay: number(2),
-            reordering: number(3),
-        },
-        _ => return None,
-    })
-}

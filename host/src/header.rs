@@ -33,7 +33,7 @@ impl Header {
         Header(HeaderGiven { spin: spin as u8, key_phase: key_phase as u8, ..given })
     }
 
-    /// Version Negotiation, with the bits below the form bit.
+    /// Version Negotiation, with the seven bits below the form bit; the top bit of a number above 0x7f is lost.
     pub const fn version_negotiation(random: u8) -> Header {
         let Header(given) = Header::of(Kind::VersionNegotiation, 0, NO_NUMBER);
         Header(HeaderGiven { random, ..given })

@@ -1,8 +1,12 @@
 //! The packet layer of QUIC (RFC 9000, 9001, 9221) on lent bytes: from a datagram to its packets, header protection off and
 //! on, from a payload to its frames, packet numbers, and headers out.
 //!
-//! Every call goes to `libgateway.a`, whose functions are proved equal to definitions written from the RFCs, for all bytes and
-//! numbers. Nothing is allocated, kept or locked. A call that says no answers an [`Error`] and changes no lent byte.
+//! Every call but one goes to `libgateway.a`, whose functions are proved equal to definitions written from the RFCs, for all bytes
+//! and numbers. The one is a step of [`AckRanges`], which reads the ranges of an ACK here, in Rust. No proof covers it, nor the rest
+//! of this crate, which lends the slices and turns the answers into Rust types; all of it is run beside quinn's own code
+//! (`tools/beside surface`).
+//!
+//! Nothing is allocated, kept or locked. A call that says no answers an [`Error`] and changes no lent byte.
 //!
 //! Encryption is the caller's: it makes the mask from a packet's [`sample`], and decrypts and encrypts the payload.
 //!
@@ -32,7 +36,7 @@ mod values;
 
 pub use acks::{AckRange, AckRanges};
 pub use error::Error;
-pub use frames::{Ack, EcnCounts, Frame, FrameRefused, Frames, Read};
+pub use frames::{Ack, EcnCounts, Frame, FrameRefused, Frames, Read, Value};
 pub use header::{Header, Written};
 pub use numbers::{Ends, Sent};
 pub use packets::{Kind, Packet, PacketRefused, Packets, Unmasked, Unsupported, sample, unmask};

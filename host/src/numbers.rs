@@ -33,7 +33,8 @@ impl Ends {
     }
 
     /// Ends that were kept elsewhere, by what [`Ends::next`], [`Ends::acknowledged`] and [`Ends::accepted`] said. Ends that no
-    /// steps can have made are refused where they are used.
+    /// steps can have made are refused where they are used, each step looking at its half alone: [`Ends::send`] and
+    /// [`Ends::acknowledge`] at the next and the acknowledged number, [`Ends::read`] and [`Ends::accept`] at the accepted one.
     pub const fn from_parts(next: FullNumber, acknowledged: Option<FullNumber>, accepted: Option<FullNumber>) -> Self {
         let (acked, has_acked) = flagged(acknowledged);
         let (largest, has_largest) = flagged(accepted);

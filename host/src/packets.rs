@@ -62,6 +62,13 @@ pub struct Packet<'a> {
     pub random: u8,
 }
 
+impl Packet<'_> {
+    /// Where it stands in the datagram: what [`sample`] and [`unmask`] are to be given of it, since other packets may follow.
+    pub const fn range(&self) -> Range<usize> {
+        self.start..self.start + self.bytes.len()
+    }
+}
+
 /// A long header of a version that is not listed, which may be answered with Version Negotiation.
 #[derive(Clone, Copy, Debug, PartialEq, Eq)]
 pub struct Unsupported<'a> {
@@ -148,7 +155,7 @@ impl core::iter::FusedIterator for Packets<'_> {}
 /// The bytes of a packet that its header protection mask is made of (RFC 9001, 5.4.2); none for Retry and Version Negotiation.
 ///
 /// # Errors
-/// [`Error::Argument`] for a packet above 65,527 bytes or a number offset of 0, then [`Error::Sample`].
+/// [`Error::Argument`] for a packet above 65,527 bytes or, but for these two, a number offset of 0; then [`Error::Sample`].
 pub fn sample(kind: Kind, packet: &[u8], number_offset: usize) -> Result<Option<&[u8; 16]>, Error> {
     let a = ffi::sample_place(kind as u8, packet, number_offset);
     match Error::from_number(a.refusal) {
@@ -168,15 +175,18 @@ pub struct Unmasked {
     pub key_phase: bool,
     /// The header with the number, which the AEAD authenticates, as a range of the packet.
     pub header: Range<usize>,
-    /// What follows.
+    /// What follows, up to the end of the bytes that were given.
     pub payload: Range<usize>,
 }
 
 /// Takes the header protection off a packet where it stands (RFC 9001, 5.4.1). Retry and Version Negotiation have none, and
 /// stay as they are.
 ///
+/// `packet` is the packet's own bytes, [`Packet::range`] of its datagram: were it the whole datagram, the payload would reach into
+/// the packets that follow.
+///
 /// # Errors
-/// [`Error::Argument`] for a packet above 65,527 bytes or a number offset of 0, then [`Error::Sample`], then
+/// [`Error::Argument`] for a packet above 65,527 bytes or, but for these two, a number offset of 0; then [`Error::Sample`]; then
 /// [`Error::Argument`] where the packet's form bit does not fit the kind.
 pub fn unmask(kind: Kind, packet: &mut [u8], number_offset: usize, mask: &[u8; 5]) -> Result<Option<Unmasked>, Error> {
     let a = ffi::unmask(kind as u8, packet, number_offset, mask);

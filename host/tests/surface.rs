@@ -119,6 +119,39 @@ fn header_protection_comes_off_and_goes_on() {
     assert_eq!((open.number, open.key_phase), (CutNumber::new(3, 0x00bff4), false));
 }
 
+/// RFC 9001, A.2's Initial, and behind it in the datagram a Handshake packet and A.5's short one.
+#[test]
+fn header_protection_comes_off_a_packet_of_several() {
+    let initial = bytes(include_str!("../examples/a2/packet.hex"));
+    let handshake = bytes("e1 00000001 00 00 4016 0102 000102030405060708090a0b0c0d0e0f10111213");
+    let short = bytes("4cfe4189655e5cd55c41f69080575d7999c25a5bfb");
+    let mut datagram = [initial.clone(), handshake.clone(), short.clone()].concat();
+    let found: Vec<_> =
+        packets(&datagram).into_iter().map(|p| p.unwrap()).map(|p| (p.kind, p.number_offset, p.range())).collect();
+    assert_eq!(
+        found,
+        [(Kind::Initial, 18, 0..1200), (Kind::Handshake, 9, 1200..1231), (Kind::Short, 1, 1231..datagram.len())]
+    );
+    let masks = [[0x43, 0x7b, 0x9a, 0xec, 0x36], [0; 5], [0xae, 0xfe, 0xfe, 0x7d, 0x03]];
+    let mut ends = Vec::new();
+    for ((kind, number_offset, range), mask) in found.into_iter().zip(masks) {
+        let packet = &mut datagram[range.clone()];
+        let open = unmask(kind, packet, number_offset, &mask).unwrap().unwrap();
+        assert_eq!(open.header.end, open.payload.start);
+        ends.push((open.number, range.start + open.payload.start..range.start + open.payload.end));
+    }
+    let number = CutNumber::new;
+    assert_eq!(
+        ends,
+        [(number(4, 2), 22..1200), (number(2, 0x102), 1211..1231), (number(3, 0xbff4), 1235..datagram.len())]
+    );
+
+    // given all of the datagram, the payload would reach into the packets behind: that is what the packet's own range is for
+    let mut whole = [initial, handshake, short].concat();
+    let len = whole.len();
+    assert_eq!(unmask(Kind::Initial, &mut whole, 18, &masks[0]).unwrap().unwrap().payload, 22..len);
+}
+
 #[test]
 fn header_protection_is_refused() {
     let mask = [0; 5];
@@ -144,61 +177,63 @@ fn header_protection_is_refused() {
 
 #[test]
 fn every_frame_is_read() {
+    let mut met = Vec::new();
+    let mut reads = |hex: &str, expected: &[Frame]| {
+        assert_eq!(frames(&bytes(hex)), expected);
+        met.extend(expected.iter().map(Frame::kind));
+    };
     let id = StreamId::new(1);
-    assert_eq!(frames(&bytes("00 01 1e 1f")), [Frame::Padding, Frame::Ping, Frame::HandshakeDone, Frame::ImmediateAck]);
-    assert_eq!(frames(&bytes("04 01 02 03")), [Frame::ResetStream { id, error_code: 2, final_size: 3 }]);
-    assert_eq!(frames(&bytes("05 01 02")), [Frame::StopSending { id, error_code: 2 }]);
-    assert_eq!(frames(&bytes("06 07 01 aa")), [Frame::Crypto { offset: 7, data: &[0xaa] }]);
-    assert_eq!(frames(&bytes("07 01 aa")), [Frame::NewToken { token: &[0xaa] }]);
+    reads("00 01 1e 1f", &[Frame::Padding, Frame::Ping, Frame::HandshakeDone, Frame::ImmediateAck]);
+    reads("02 05 07 00 01", &[Frame::Ack(Ack { largest: FullNumber::new(5), delay: 7, blocks: &[1], ecn: None })]);
+    reads("04 01 02 03", &[Frame::ResetStream { id, error_code: 2, final_size: 3 }]);
+    reads("05 01 02", &[Frame::StopSending { id, error_code: 2 }]);
+    reads("06 07 01 aa", &[Frame::Crypto { offset: 7, data: &[0xaa] }]);
+    reads("07 01 aa", &[Frame::NewToken { token: &[0xaa] }]);
     let stream = |offset, fin, has_length| Frame::Stream { id, offset, fin, has_length, data: &[0xaa] };
-    assert_eq!(frames(&bytes("0f 01 05 01 aa 08 01 aa")), [stream(5, true, true), stream(0, false, false)]);
-    assert_eq!(
-        frames(&bytes("10 02 11 01 02")),
-        [Frame::MaxData { maximum: 2 }, Frame::MaxStreamData { id, maximum: 2 }]
+    reads(
+        "0f 01 05 01 aa 0a 01 01 aa 08 01 aa",
+        &[stream(5, true, true), stream(0, false, true), stream(0, false, false)],
     );
-    assert_eq!(
-        frames(&bytes("12 02 13 02")),
-        [Frame::MaxStreams { one_way: false, maximum: 2 }, Frame::MaxStreams { one_way: true, maximum: 2 }]
-    );
-    assert_eq!(
-        frames(&bytes("14 02 15 01 02")),
-        [Frame::DataBlocked { limit: 2 }, Frame::StreamDataBlocked { id, limit: 2 }]
-    );
-    assert_eq!(
-        frames(&bytes("16 02 17 02")),
-        [Frame::StreamsBlocked { one_way: false, limit: 2 }, Frame::StreamsBlocked { one_way: true, limit: 2 }]
-    );
-    let payload = bytes("18 02 01 01 cc 000102030405060708090a0b0c0d0e0f 19 02");
-    assert_eq!(
-        frames(&payload),
-        [
-            Frame::NewConnectionId { sequence: 2, retire_prior_to: 1, id: &[0xcc], reset_token: &payload[5..21] },
-            Frame::RetireConnectionId { sequence: 2 }
-        ]
-    );
-    assert_eq!(
-        frames(&bytes("1a 0000000000000102 1b ffffffffffffffff")),
-        [Frame::PathChallenge { data: 0x102 }, Frame::PathResponse { data: u64::MAX }]
-    );
-    assert_eq!(
-        frames(&bytes("1c 02 00 01 aa 1c 02 08 00 1d 02 01 aa")),
-        [
-            Frame::ConnectionClose { error_code: 2, frame_type: None, reason: &[0xaa] },
-            Frame::ConnectionClose { error_code: 2, frame_type: Some(FrameType::new(8)), reason: &[] },
-            Frame::ApplicationClose { error_code: 2, reason: &[0xaa] }
-        ]
-    );
-    assert_eq!(
-        frames(&bytes("31 01 aa 30 aa bb")),
-        [
-            Frame::Datagram { has_length: true, data: &[0xaa] },
-            Frame::Datagram { has_length: false, data: &[0xaa, 0xbb] }
-        ]
-    );
-    assert_eq!(
-        frames(&bytes("40af 01 02 03 04")),
-        [Frame::AckFrequency { sequence: 1, threshold: 2, max_delay: 3, reordering: 4 }]
-    );
+    reads("09 01 aa", &[stream(0, true, false)]);
+    reads("10 02 11 01 02", &[Frame::MaxData { maximum: 2 }, Frame::MaxStreamData { id, maximum: 2 }]);
+    let streams = |one_way| Frame::MaxStreams { one_way, maximum: 2 };
+    reads("12 02 13 02", &[streams(false), streams(true)]);
+    reads("14 02 15 01 02", &[Frame::DataBlocked { limit: 2 }, Frame::StreamDataBlocked { id, limit: 2 }]);
+    let blocked = |one_way| Frame::StreamsBlocked { one_way, limit: 2 };
+    reads("16 02 17 02", &[blocked(false), blocked(true)]);
+    let reset_token = &bytes("000102030405060708090a0b0c0d0e0f");
+    let new_id = Frame::NewConnectionId { sequence: 2, retire_prior_to: 1, id: &[0xcc], reset_token };
+    reads("18 02 01 01 cc 000102030405060708090a0b0c0d0e0f", &[new_id]);
+    reads("19 02", &[Frame::RetireConnectionId { sequence: 2 }]);
+    let (challenge, response) = (Frame::PathChallenge { data: 0x102 }, Frame::PathResponse { data: u64::MAX });
+    reads("1a 0000000000000102 1b ffffffffffffffff", &[challenge, response]);
+    let close = |frame_type: Option<u64>, reason| {
+        let frame_type = frame_type.map(FrameType::new);
+        Frame::ConnectionClose { error_code: 2, frame_type, reason }
+    };
+    reads("1c 02 00 01 aa 1c 02 08 00", &[close(None, &[0xaa]), close(Some(8), &[])]);
+    reads("1d 02 01 aa", &[Frame::ApplicationClose { error_code: 2, reason: &[0xaa] }]);
+    let datagram = |has_length, data| Frame::Datagram { has_length, data };
+    reads("31 01 aa 30 aa bb", &[datagram(true, &[0xaa]), datagram(false, &[0xaa, 0xbb])]);
+    reads("40af 01 02 03 04", &[Frame::AckFrequency { sequence: 1, threshold: 2, max_delay: 3, reordering: 4 }]);
+    met.sort();
+    met.dedup();
+    assert_eq!(met, Frame::KINDS, "a kind of frame has no example here");
+}
+
+#[test]
+fn a_frame_has_its_values() {
+    use Value::{Nothing, Number, Part};
+    let values = |hex: &str| frames(&bytes(hex))[0].values().map(|value| format!("{value:?}"));
+    let shown = |values: [Value; 6]| values.map(|value| format!("{value:?}"));
+    assert_eq!(values("01"), shown([Nothing; 6]));
+    let ack = [Number(5), Number(7), Part(&[1])];
+    assert_eq!(values("02 05 07 00 01"), shown([ack[0], ack[1], ack[2], Nothing, Nothing, Nothing]));
+    assert_eq!(values("03 05 07 00 01 08 09 0a"), shown([ack[0], ack[1], ack[2], Number(8), Number(9), Number(10)]));
+    let stream = [Number(1), Number(0), Number(1), Number(0), Part(&[0xaa]), Nothing];
+    assert_eq!(values("09 01 aa"), shown(stream));
+    let close = [Number(2), Nothing, Part(&[0xaa]), Nothing, Nothing, Nothing];
+    assert_eq!(values("1c 02 00 01 aa"), shown(close));
 }
 
 #[test]
