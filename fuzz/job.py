@@ -1,7 +1,9 @@
-"""What fuzz/run and fuzz/wrong share: the build, and libFuzzer's processes with what they say."""
+"""What fuzz/run and fuzz/wrong share: their usage, the build, and libFuzzer's processes with what they say."""
+import argparse
 import os
 import re
 import subprocess
+import sys
 
 HERE = os.path.dirname(os.path.abspath(__file__))
 ROOT = os.path.dirname(HERE)
@@ -20,6 +22,26 @@ class Failed(Exception):
     pass
 
 
+class Parser(argparse.ArgumentParser):
+    """Reads the words of a script, and says its usage in the words at the script's head: all for --help, the first part for a word
+    that is wrong."""
+
+    def __init__(self, text):
+        super().__init__(allow_abbrev=False)
+        self.text = text.strip() + '\n'
+
+    def format_help(self):
+        return self.text
+
+    def format_usage(self):
+        return self.text[self.text.index('usage:'):].partition('\n\n')[0] + '\n'
+
+
+def tell(text):
+    """A line of progress."""
+    print('fuzz:', text, file=sys.stderr, flush=True)
+
+
 def quiet(command, **more):
     """Runs it; answers what it printed, or fails with its last lines."""
     try:
@@ -34,6 +56,7 @@ def quiet(command, **more):
 def library(folder):
     """The archive: the folder's, or as rt makes it."""
     if not folder:
+        tell('rt staticlib gateway, which proves what it has not proved yet')
         quiet(['rt', 'staticlib', 'gateway'], cwd=ROOT)
         folder = os.path.join(ROOT, 'target/staticlib')
     path = os.path.join(os.path.abspath(folder), 'libgateway.a')
@@ -43,6 +66,7 @@ def library(folder):
 
 
 def build(archive):
+    tell('building both sides')
     env = dict(os.environ, GUOBBAREL_LIB=os.path.dirname(archive))
     quiet(['cargo', 'build', '--offline', '--release', '--quiet'], cwd=HERE, env=env)
 

@@ -37,6 +37,10 @@ fn main() -> ExitCode {
         ["--quick"] => (QUICK, docs),
         ["--to", folder] => (FULL, folder),
         ["--quick", "--to", folder] => (QUICK, folder),
+        ["-h" | "--help", ..] => {
+            println!("{USAGE}");
+            return ExitCode::SUCCESS;
+        }
         _ => {
             eprintln!("{USAGE}");
             return ExitCode::from(2);

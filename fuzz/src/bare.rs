@@ -6,6 +6,7 @@ use crate::clean::{
 };
 use crate::fence::Fence;
 use crate::ffi::{self, HeaderGiven, NumberEnds, UnmaskAnswer};
+use guobbarel::Frames;
 use oracle::harness::words::{Args, Bad};
 use std::io;
 
@@ -89,11 +90,13 @@ impl Bare {
 
     fn frames(&mut self, a: &mut Args) -> Result<bool, Bad> {
         let payload = a.bytes()?;
-        let payload = self.bytes.lend(&payload);
+        let payload: &[u8] = self.bytes.lend(&payload);
         let (mut at, mut holds) = (0, true);
+        let mut safe = Frames::new(payload);
         loop {
             let answer = ffi::frame_read(payload, at);
-            holds &= is_clean_frame(&answer, at);
+            let said = safe.next().and_then(Result::ok).map(|read| read.frame.values());
+            holds &= is_clean_frame(&answer, at, said, payload);
             if answer.found == 0 {
                 return Ok(holds);
             }

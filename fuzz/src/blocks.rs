@@ -12,7 +12,7 @@ const MOST: usize = 1 << 12;
 const BREAK: u8 = 0xcc;
 const PAGE: usize = 4096;
 
-/// As in runtime.rs; a block counts only for the first input that runs it.
+/// As in seen.rs; a block counts only for the first input that runs it.
 #[used]
 #[unsafe(link_section = "__libfuzzer_extra_counters")]
 static COUNTERS: [AtomicU8; MOST] = [const { AtomicU8::new(0) }; MOST];

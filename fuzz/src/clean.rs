@@ -1,5 +1,7 @@
 //! What an answer of a C function has, by include/guobbarel.h: all else in it must be 0.
 use crate::ffi::{FrameAnswer, FrameValue, HeaderAnswer, NumberAnswer, NumberEnds, SplitAnswer, UnmaskAnswer};
+use guobbarel::Value;
+use surface::ours::start_of;
 
 /// Kinds of packet, and what stands for none.
 pub const INITIAL: u8 = 0;
@@ -11,34 +13,6 @@ pub const NO_PACKET: u8 = 6;
 /// Refusals.
 const NO_VERSION: u8 = 4;
 pub const NO_ARGUMENT: u8 = 14;
-
-/// By its name, what a frame's values are: a number, a place, or a number that may be missing; the rest is nothing.
-const FRAMES: [(u64, &str); 24] = [
-    (0x00, ""),
-    (0x01, ""),
-    (0x02, "NNP???"),
-    (0x04, "NNN"),
-    (0x05, "NN"),
-    (0x06, "NP"),
-    (0x07, "P"),
-    (0x08, "NNNNP"),
-    (0x10, "N"),
-    (0x11, "NN"),
-    (0x12, "NN"),
-    (0x14, "N"),
-    (0x15, "NN"),
-    (0x16, "NN"),
-    (0x18, "NNPP"),
-    (0x19, "N"),
-    (0x1a, "N"),
-    (0x1b, "N"),
-    (0x1c, "N?P"),
-    (0x1d, "NP"),
-    (0x1e, ""),
-    (0x1f, ""),
-    (0x30, "NP"),
-    (0xaf, "NNNN"),
-];
 
 pub fn has_number(kind: u8) -> bool {
     kind != RETRY && kind != VERSION_NEGOTIATION
@@ -66,25 +40,27 @@ pub fn is_empty(x: &UnmaskAnswer) -> bool {
         && [x.header.range(), x.payload.range()] == [0..0, 0..0]
 }
 
-/// Of the frame at a place.
-pub fn is_clean_frame(x: &FrameAnswer, at: usize) -> bool {
+/// Of the frame at a place of a payload, which says these values to the safe crate: each stands alone in its record.
+pub fn is_clean_frame(x: &FrameAnswer, at: usize, said: Option<[Value; 6]>, payload: &[u8]) -> bool {
     let is_frame = x.found == 1;
-    let row = FRAMES.iter().find(|row| row.0 == x.name && is_frame).map_or("", |row| row.1);
-    let kinds = row.bytes().chain(std::iter::repeat(b'-'));
+    let values = said.unwrap_or([Value::Nothing; 6]);
     x.start == at
-        && x.value.iter().zip(kinds).all(|(value, kind)| is_clean_value(value, kind))
+        && is_frame == said.is_some()
+        && x.value.iter().zip(values).all(|(value, said)| is_clean_value(value, said, payload))
         && (is_frame || x.next == 0 && x.name == 0)
         && (x.has_type == 1 || x.frame_type == 0)
 }
 
-fn is_clean_value(x: &FrameValue, kind: u8) -> bool {
-    let known: &[u8] = match kind {
-        b'N' => &[1],
-        b'P' => &[2],
-        b'?' => &[0, 1],
-        _ => &[0],
+fn is_clean_value(x: &FrameValue, said: Value, payload: &[u8]) -> bool {
+    let (kind, number, place) = match said {
+        Value::Nothing => (0, 0, 0..0),
+        Value::Number(number) => (1, number, 0..0),
+        Value::Part(part) => {
+            let start = start_of(part, payload);
+            (2, 0, start..start + part.len())
+        }
     };
-    known.contains(&x.kind) && (x.number == 0 || x.kind == 1) && (x.place.range() == (0..0) || x.kind == 2)
+    x.kind == kind && x.number == number && x.place.range() == place
 }
 
 /// Of a header of this kind.

@@ -39,6 +39,10 @@ fn main() -> ExitCode {
         ["seeds", folder] => seeds(Path::new(folder)),
         ["show", ref files @ ..] if !files.is_empty() => show(files),
         ["run", ..] => run(&args),
+        ["-h" | "--help", ..] => {
+            println!("{USAGE}");
+            return ExitCode::SUCCESS;
+        }
         _ => {
             eprintln!("{USAGE}");
             return ExitCode::from(2);

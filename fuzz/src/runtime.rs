@@ -3,16 +3,7 @@
 use crate::asker::Asker;
 use crate::{blocks, mutate};
 use std::ffi::{CString, c_char, c_int, c_uint};
-use std::sync::atomic::{AtomicU8, Ordering};
 use std::sync::{Mutex, OnceLock};
-
-/// How many counters there are for what our side answered.
-const COUNTERS: usize = 1 << 14;
-
-/// Counters of the fuzzed program's own, which libFuzzer looks at after each input and clears before it.
-#[used]
-#[unsafe(link_section = "__libfuzzer_extra_counters")]
-static SEEN: [AtomicU8; COUNTERS] = [const { AtomicU8::new(0) }; COUNTERS];
 
 static ASKER: OnceLock<Mutex<Asker>> = OnceLock::new();
 
@@ -21,12 +12,6 @@ type Callback = extern "C" fn(*const u8, usize) -> c_int;
 unsafe extern "C" {
     fn LLVMFuzzerRunDriver(argc: *mut c_int, argv: *mut *mut *mut c_char, callback: Callback) -> c_int;
     fn LLVMFuzzerMutate(data: *mut u8, size: usize, max_size: usize) -> usize;
-}
-
-/// Counts by a hash: no counter passes 255.
-pub fn count(hash: usize) {
-    let counter = &SEEN[(hash ^ hash >> 32) % COUNTERS];
-    counter.store(counter.load(Ordering::Relaxed).saturating_add(1), Ordering::Relaxed);
 }
 
 /// Runs libFuzzer with its own words. It ends the process.

@@ -1,8 +1,16 @@
 //! What our side answered, as coverage: the archive has no counters of its own.
-use crate::runtime::count;
+use std::sync::atomic::{AtomicU8, Ordering};
 
 /// From here on a word's length counts by its power of two.
 const LONG: usize = 24;
+/// How many counters there are.
+const COUNTERS: usize = 1 << 14;
+
+/// Counters of the fuzzed program's own, which libFuzzer looks at after each input and clears before it.
+#[allow(unsafe_code)] // sound: the section is libFuzzer's for such counters, bytes that start as 0
+#[used]
+#[unsafe(link_section = "__libfuzzer_extra_counters")]
+static SEEN: [AtomicU8; COUNTERS] = [const { AtomicU8::new(0) }; COUNTERS];
 
 /// Counts how many steps an answer has and, of each, every word by its place, its length and what the step is.
 pub fn note(case: &str, answer: &str) {
@@ -16,6 +24,12 @@ pub fn note(case: &str, answer: &str) {
             count(mix(mix(what, place), len));
         }
     }
+}
+
+/// Counts by a hash: no counter passes 255.
+fn count(hash: usize) {
+    let counter = &SEEN[(hash ^ hash >> 32) % COUNTERS];
+    counter.store(counter.load(Ordering::Relaxed).saturating_add(1), Ordering::Relaxed);
 }
 
 /// Whether a word is a name, neither a number nor bytes, or the number of a refusal.

@@ -112,6 +112,29 @@ static void numbers(void) {
     EXPECT(a.refusal == GUOBBAREL_NO_TOO_FAR && a.ends.next == 2147483648u);
 }
 
+/* A step looks at its half of the ends alone; a number whose flag is 0 comes back as 0, but of a read. */
+static void halves(void) {
+    guobbarel_number_ends sending = {5, 7, 0, 1, 0};
+    EXPECT(guobbarel_number_step(GUOBBAREL_SEND, sending, 0, 0, 0).refusal == GUOBBAREL_NO_ARGUMENT);
+    EXPECT(guobbarel_number_step(GUOBBAREL_ACKNOWLEDGE, sending, 0, 0, 0).refusal == GUOBBAREL_NO_ARGUMENT);
+    EXPECT(guobbarel_number_step(GUOBBAREL_READ, sending, 0, 1, 0).refusal == GUOBBAREL_OK);
+    guobbarel_number_answer a = guobbarel_number_step(GUOBBAREL_ACCEPT, sending, 3, 0, 0);
+    EXPECT(a.refusal == GUOBBAREL_OK && a.ends.largest == 3 && a.ends.next == 5 && a.ends.acked == 7);
+
+    guobbarel_number_ends receiving = {5, 0, UINT64_C(1) << 62, 0, 1};
+    EXPECT(guobbarel_number_step(GUOBBAREL_READ, receiving, 0, 1, 0).refusal == GUOBBAREL_NO_ARGUMENT);
+    EXPECT(guobbarel_number_step(GUOBBAREL_ACCEPT, receiving, 0, 0, 0).refusal == GUOBBAREL_NO_ARGUMENT);
+    a = guobbarel_number_step(GUOBBAREL_SEND, receiving, 0, 0, 0);
+    EXPECT(a.refusal == GUOBBAREL_OK && a.ends.next == 6 && a.ends.largest == UINT64_C(1) << 62);
+    EXPECT(guobbarel_number_step(GUOBBAREL_ACKNOWLEDGE, receiving, 4, 0, 0).refusal == GUOBBAREL_OK);
+
+    guobbarel_number_ends unflagged = {5, 9, 9, 0, 0};
+    a = guobbarel_number_step(GUOBBAREL_READ, unflagged, 0, 1, 0);
+    EXPECT(a.refusal == GUOBBAREL_OK && a.ends.acked == 9 && a.ends.largest == 9);
+    a = guobbarel_number_step(GUOBBAREL_SEND, unflagged, 0, 0, 0);
+    EXPECT(a.refusal == GUOBBAREL_OK && a.ends.acked == 0 && a.ends.largest == 0);
+}
+
 static void headers(void) {
     const uint8_t cid[21] = {0xdd};
     const uint8_t written[] = {0xe0, 0, 0, 0, 1, 1, 0xdd, 0, 0x40, 0x15, 0x09};
@@ -133,6 +156,12 @@ static void headers(void) {
     a = guobbarel_header_write(h, cid, 1, NULL, 0, NULL, 0, 20, out, sizeof out);
     EXPECT(a.refusal == GUOBBAREL_OK && a.header_len == 11 && a.number_len == 1 && a.has_length == 1);
     EXPECT(memcmp(out, written, sizeof written) == 0 && out[11] == 0xee);
+    h.kind = GUOBBAREL_VERSION_NEGOTIATION;
+    h.random = 0x85; /* its top bit is lost */
+    a = guobbarel_header_write(h, cid, 1, NULL, 0, NULL, 0, 20, out, sizeof out);
+    EXPECT(a.refusal == GUOBBAREL_OK && a.header_len == 8 && out[0] == 0x85 && out[4] == 0);
+    guobbarel_split_answer back = guobbarel_split(out, 8, 0, 0, versions, 1, 1);
+    EXPECT(back.kind == GUOBBAREL_VERSION_NEGOTIATION && back.random == 5);
 }
 
 int main(void) {
@@ -140,6 +169,7 @@ int main(void) {
     protection();
     frames();
     numbers();
+    halves();
     headers();
     if (!failed)
         printf("the C surface is as its header says\n");

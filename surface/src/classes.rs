@@ -1,41 +1,30 @@
 //! Classes of answers, and those that must come up.
-
-/// Kinds of packet.
-const KINDS: &str = "initial,0rtt,handshake,retry,short,vneg";
-/// Kinds of frame.
-const FRAMES: &str = "padding,ping,ack,reset,stop,crypto,token,stream,maxdata,maxstreamdata,maxstreams,datablocked,\
-                      streamdatablocked,streamsblocked,newcid,retirecid,challenge,response,close,appclose,datagram,ackfreq,\
-                      immediateack,done";
+use crate::ours;
 
 /// The steps of a run, by their numbers.
 const STEPS: [&str; 7] = ["send", "acknowledge", "read", "accept", "set next", "set acked", "set largest"];
 
-/// The classes that the answers of an operation must have, with commas between; an operation's kinds first.
-fn lists(op: &str) -> [&'static str; 2] {
-    match op {
-        "decode" => [KINDS, "no 1,no 2,no 3,no 4,no 5,no 6,no 14"],
-        "split" => [KINDS, "no 1,no 2,no 3,no 4,no 5,no 6,no 7,no 14"],
-        "walk" => [KINDS, "end,refused 1,refused 2,refused 3,refused 4,refused 5,refused 6,refused 7,refused 14"],
-        "finish" | "whole" => [KINDS, "no 8,no 14"],
-        "sample" => ["ok,none", "no 8,no 14"],
-        "henc" => [KINDS, "no 14,no 15"],
-        "hmask" => ["ok", "no 8,no 14"],
-        "frames" => [FRAMES, "no 10,no 11,no 12,no 13,no 14"],
-        "ackscan" => ["ok", "no 10,no 12"],
-        "ackiter" => ["range,end", "no 10,no 12,no 14"],
-        "ends" => [
-            "send,acknowledge,read,accept,set next,set acked,set largest",
-            "send no 14,send no 16,acknowledge no 14,read no 14,accept no 14",
-        ],
-        "pnnew" => ["ok", "no 14,no 16"],
-        "pnexp" => ["ok", "no 14"],
-        _ => ["", ""],
-    }
-}
-
-/// Every class that must come up.
+/// Every class that must come up among the answers of an operation: its kinds first, then the rest, with commas between.
 pub fn all(op: &str) -> impl Iterator<Item = &'static str> {
-    lists(op).into_iter().flat_map(|list| list.split(','))
+    let (kinds, rest): (Vec<&str>, &str) = match op {
+        "decode" => (ours::kinds(), "no 1,no 2,no 3,no 4,no 5,no 6,no 14"),
+        "split" => (ours::kinds(), "no 1,no 2,no 3,no 4,no 5,no 6,no 7,no 14"),
+        "walk" => {
+            (ours::kinds(), "end,refused 1,refused 2,refused 3,refused 4,refused 5,refused 6,refused 7,refused 14")
+        }
+        "finish" | "whole" => (ours::kinds(), "no 8,no 14"),
+        "sample" => (vec!["ok", "none"], "no 8,no 14"),
+        "henc" => (ours::kinds(), "no 14,no 15"),
+        "hmask" => (vec!["ok"], "no 8,no 14"),
+        "frames" => (ours::frame_words(), "no 10,no 11,no 12,no 13,no 14"),
+        "ackscan" => (vec!["ok"], "no 10,no 12"),
+        "ackiter" => (vec!["range", "end"], "no 10,no 12,no 14"),
+        "ends" => (STEPS.into(), "send no 14,send no 16,acknowledge no 14,read no 14,accept no 14"),
+        "pnnew" => (vec!["ok"], "no 14,no 16"),
+        "pnexp" => (vec!["ok"], "no 14"),
+        _ => (vec![], "an operation without a list"),
+    };
+    kinds.into_iter().chain(rest.split(','))
 }
 
 /// Hands out the class of an answer, of a walk or a run that of each step.

@@ -45,9 +45,13 @@ fn wanted(args: &[String]) -> Option<Wanted> {
 
 fn main() -> ExitCode {
     let args: Vec<String> = std::env::args().skip(1).collect();
+    let usage = || format!("{USAGE}{}.", ours::operations().collect::<Vec<_>>().join(" "));
+    if args.iter().any(|word| word == "-h" || word == "--help") {
+        println!("{}", usage());
+        return ExitCode::SUCCESS;
+    }
     let Some(wanted) = wanted(&args) else {
-        let names: Vec<&str> = ours::operations().collect();
-        eprintln!("{USAGE}{}.", names.join(" "));
+        eprintln!("{}", usage());
         return ExitCode::from(2);
     };
     let named = match named_differences() {

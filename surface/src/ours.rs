@@ -4,6 +4,7 @@ mod headers;
 mod numbers;
 mod packets;
 
+pub use frames::words as frame_words;
 use guobbarel::{Error, Kind};
 use oracle::harness::words::{Args, Bad};
 
@@ -55,6 +56,11 @@ const KINDS: [(&str, Kind); 6] = [
     ("vneg", Kind::VersionNegotiation),
 ];
 
+/// The words for the kinds of packet.
+pub fn kinds() -> Vec<&'static str> {
+    KINDS.iter().map(|kind| kind.0).collect()
+}
+
 fn name_of(kind: Kind) -> &'static str {
     KINDS[kind as usize].0
 }
@@ -69,7 +75,7 @@ fn no(error: Error) -> String {
 }
 
 /// Where a part that was handed out starts in the slice that it is of.
-fn start_of(part: &[u8], whole: &[u8]) -> usize {
+pub fn start_of(part: &[u8], whole: &[u8]) -> usize {
     (part.as_ptr() as usize).wrapping_sub(whole.as_ptr() as usize)
 }
 

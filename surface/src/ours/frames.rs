@@ -1,6 +1,6 @@
 //! Frames: the walk over a payload, and the ranges of ACK blocks.
 use super::{Said, no, start_of};
-use guobbarel::{Ack, AckRanges, Frame, Frames, FullNumber, Read};
+use guobbarel::{Ack, AckRanges, Frame, Frames, FullNumber, Read, Value};
 use oracle::harness::rng::END;
 use oracle::harness::words::Args;
 
@@ -25,48 +25,54 @@ pub fn frames(a: &mut Args) -> Said {
     Ok(Some(line))
 }
 
-fn shown(frame: &Frame, payload: &[u8]) -> String {
-    let place = |part: &[u8]| format!("{} {}", start_of(part, payload), part.len());
-    match *frame {
-        Frame::Padding => "padding".into(),
-        Frame::Ping => "ping".into(),
-        Frame::Ack(ref x) => ack(x, &place(x.blocks)),
-        Frame::ResetStream { id, error_code, final_size } => format!("reset {id} {error_code} {final_size}"),
-        Frame::StopSending { id, error_code } => format!("stop {id} {error_code}"),
-        Frame::Crypto { offset, data } => format!("crypto {offset} {}", place(data)),
-        Frame::NewToken { token } => format!("token {}", place(token)),
-        Frame::Stream { id, offset, fin, has_length, data } => {
-            format!("stream {id} {offset} {} {} {}", u8::from(fin), u8::from(has_length), place(data))
-        }
-        Frame::MaxData { maximum } => format!("maxdata {maximum}"),
-        Frame::MaxStreamData { id, maximum } => format!("maxstreamdata {id} {maximum}"),
-        Frame::MaxStreams { one_way, maximum } => format!("maxstreams {} {maximum}", u8::from(one_way)),
-        Frame::DataBlocked { limit } => format!("datablocked {limit}"),
-        Frame::StreamDataBlocked { id, limit } => format!("streamdatablocked {id} {limit}"),
-        Frame::StreamsBlocked { one_way, limit } => format!("streamsblocked {} {limit}", u8::from(one_way)),
-        Frame::NewConnectionId { sequence, retire_prior_to, id, reset_token } => {
-            format!("newcid {sequence} {retire_prior_to} {} {}", place(id), place(reset_token))
-        }
-        Frame::RetireConnectionId { sequence } => format!("retirecid {sequence}"),
-        Frame::PathChallenge { data } => format!("challenge {data}"),
-        Frame::PathResponse { data } => format!("response {data}"),
-        Frame::ConnectionClose { error_code, frame_type, reason } => {
-            let ty = frame_type.map_or("-".into(), |ty| ty.to_string());
-            format!("close {error_code} {ty} {}", place(reason))
-        }
-        Frame::ApplicationClose { error_code, reason } => format!("appclose {error_code} {}", place(reason)),
-        Frame::Datagram { has_length, data } => format!("datagram {} {}", u8::from(has_length), place(data)),
-        Frame::AckFrequency { sequence, threshold, max_delay, reordering } => {
-            format!("ackfreq {sequence} {threshold} {max_delay} {reordering}")
-        }
-        Frame::ImmediateAck => "immediateack".into(),
-        Frame::HandshakeDone => "done".into(),
-    }
+/// The oracle's words for the kinds of frame, by their first types.
+const WORDS: [(u64, &str); 24] = [
+    (0x00, "padding"),
+    (0x01, "ping"),
+    (0x02, "ack"),
+    (0x04, "reset"),
+    (0x05, "stop"),
+    (0x06, "crypto"),
+    (0x07, "token"),
+    (0x08, "stream"),
+    (0x10, "maxdata"),
+    (0x11, "maxstreamdata"),
+    (0x12, "maxstreams"),
+    (0x14, "datablocked"),
+    (0x15, "streamdatablocked"),
+    (0x16, "streamsblocked"),
+    (0x18, "newcid"),
+    (0x19, "retirecid"),
+    (0x1a, "challenge"),
+    (0x1b, "response"),
+    (0x1c, "close"),
+    (0x1d, "appclose"),
+    (0x1e, "done"),
+    (0x1f, "immediateack"),
+    (0x30, "datagram"),
+    (0xaf, "ackfreq"),
+];
+
+/// The words for the kinds of frame.
+pub fn words() -> Vec<&'static str> {
+    WORDS.iter().map(|row| row.1).collect()
 }
 
-fn ack(x: &Ack, blocks: &str) -> String {
-    let counts = x.ecn.map_or("-".into(), |c| format!("{} {} {}", c.ect0, c.ect1, c.ce));
-    format!("ack {} {} {blocks} {counts}{}", x.largest, x.delay, ranges(x))
+/// A frame's word and its values, a part by its place in the payload; of an ACK the ranges behind them.
+fn shown(frame: &Frame, payload: &[u8]) -> String {
+    let word = WORDS.iter().find(|row| row.0 == frame.kind().get()).map_or("no word", |row| row.1);
+    let values = frame.values();
+    let count = values.iter().rposition(|value| *value != Value::Nothing).map_or(0, |last| last + 1);
+    let said = values[..count].iter().map(|value| match *value {
+        Value::Nothing => " -".into(),
+        Value::Number(n) => format!(" {n}"),
+        Value::Part(part) => format!(" {} {}", start_of(part, payload), part.len()),
+    });
+    let line = word.to_string() + &said.collect::<String>();
+    match frame {
+        Frame::Ack(x) => line + if x.ecn.is_none() { " -" } else { "" } + &ranges(x),
+        _ => line,
+    }
 }
 
 fn ranges(x: &Ack) -> String {
@@ -106,4 +112,14 @@ pub fn ackiter(a: &mut Args) -> Said {
         }
     }
     Ok(Some(line + "end : _ _;"))
+}
+
+#[cfg(test)]
+mod tests {
+    use super::{Frame, WORDS};
+
+    #[test]
+    fn every_kind_of_frame_has_a_word() {
+        assert!(WORDS.iter().map(|row| row.0).eq(Frame::KINDS.iter().map(|kind| kind.get())));
+    }
 }
