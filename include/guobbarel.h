@@ -4,7 +4,8 @@
  * and keeps nothing between two calls, so any number of threads may call it.
  *
  * Every argument is checked, and every answer comes back by value. Its first field is the refusal (guobbarel_mask answers nothing
- * else): 0 for none, else one of GUOBBAREL_NO_..; what an answer does not have is 0. A refusal changes no lent byte.
+ * else): 0 for none, else one of GUOBBAREL_NO_..; what an answer does not have is 0, but for the kind of no packet. A refusal changes
+ * no lent byte.
  *
  * What a caller owes, because no callee can check it:
  *   - a pointer and the length behind it name that many bytes (or numbers of a list of versions) that may be read, and written
@@ -187,7 +188,8 @@ typedef struct guobbarel_number_ends {
 enum guobbarel_step {
     GUOBBAREL_SEND = 0,        /* uses up the next number: answers it and what of it the packet carries */
     GUOBBAREL_ACKNOWLEDGE = 1, /* `number` was acknowledged; one that was not sent is 14 */
-    GUOBBAREL_READ = 2,        /* answers the full number of number_len and number_value, and changes nothing */
+    GUOBBAREL_READ = 2,        /* answers the full number of number_len and number_value, and changes nothing. At the end of the
+                                  space that can be 2^62 or more, which an accept refuses (docs/DIFFERENCES.md) */
     GUOBBAREL_ACCEPT = 3       /* `number` was accepted; one above 2^62 - 1 is 14 */
 };
 
