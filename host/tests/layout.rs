@@ -1,4 +1,5 @@
 //! The layout of the C records: what the Rattle records come to by the rules of C is what include/guobbarel.h and src/ffi.rs assert.
+use guobbarel::Frame;
 use std::collections::BTreeMap;
 
 const RATTLE: [&str; 2] = [
@@ -119,4 +120,15 @@ fn every_record_of_the_header_is_asserted() {
         .collect();
     declared.sort();
     assert!(declared.iter().eq(of_header().keys()));
+}
+
+/// Its table of values has, at the head of a line or past a comma, the first type and the name of each kind of frame.
+#[test]
+fn the_header_names_every_kind_of_frame() {
+    let (_, table) = HEADER.split_once("/* By `name`").expect("the table");
+    let lines = table.lines().skip(1).map_while(|line| line.strip_prefix(" *")).take_while(|line| !line.is_empty());
+    let first = |piece: &str| u64::from_str_radix(piece.trim_start().split_once(' ')?.0, 16).ok();
+    let mut named: Vec<u64> = lines.flat_map(|line| line.split(", ")).filter_map(first).collect();
+    named.sort();
+    assert!(named.iter().copied().eq(Frame::KINDS.iter().map(|kind| kind.get())), "{named:x?}");
 }
