@@ -1,10 +1,11 @@
-"""edits: small wrong changes as text, for tools/proof (must-fail edits) and tools/twins.
+"""edits: small wrong changes as text, and what the check says of them, for tools/proof (must-fail edits) and tools/twins.
 
 `file: PATH` holds for the pairs of lines `old: TEXT` and `new: TEXT` after it; `# ..` says what the edit shows. TEXT is one line, and
 `old` stands in its file exactly once.
 """
 import collections
 import os
+import re
 
 Edit = collections.namedtuple('Edit', 'says pairs')  # pairs: (file, old, new)
 
@@ -26,16 +27,66 @@ def parse(text):
 
 
 def edited(folder, pairs):
-    """{file: its text with the pairs made}; ValueError where an `old` does not stand there exactly once."""
+    """{file: its text with the pairs made, all at once}; ValueError where an `old` does not stand there exactly once."""
     texts = {}
-    for file, old, new in pairs:
+    for file in {file for file, _, _ in pairs}:
         path = os.path.join(folder, file or '')
-        if file not in texts:
-            if not os.path.isfile(path):
-                raise ValueError(f'there is no {file}')
-            texts[file] = open(path).read()
-        count = texts[file].count(old) if old else 0
-        if count != 1:
-            raise ValueError(f'{file}: `{old}` stands there {count} times, not once')
-        texts[file] = texts[file].replace(old, new)
+        if not os.path.isfile(path):
+            raise ValueError(f'there is no {file}')
+        text, cuts = open(path).read(), []
+        for old, new in [(old, new) for f, old, new in pairs if f == file]:
+            count = text.count(old) if old else 0
+            if count != 1:
+                raise ValueError(f'{file}: `{old}` stands there {count} times, not once')
+            cuts.append((text.index(old), old, new))
+        for at, old, new in sorted(cuts, reverse=True):
+            text = text[:at] + new + text[at + len(old):]
+        texts[file] = text
     return texts
+
+
+SHORT = [(r'Prim\.Native\.Nat\.|lib\.(ListN|Dec|Seq)\.|mathlib\.Core\.\w+\.', ''), (r'Rattle·\w+·(proofs|specs)\.(proofs|specs)\.', '')]
+
+
+def shorten(line, width):
+    for pattern, new in SHORT:
+        line = re.sub(pattern, new, line)
+    return line[:width]
+
+
+# What a first error says, as (pattern, in words, whether a fact is lost). The first pattern that is found counts.
+ERRORS = [
+    (r'^\[', 'the code is no program', False),
+    (r'has no `Need-|has no field|missing field|expected type `tie\.|field\(s\)', 'the proof does not fit the code', False),
+    (r'not in scope|no such name|no definition|is not a definition|does not exist', 'a name is not known', False),
+    (r'was not admitted|unsolved|Parse|expected a function|ResourceLimit|step limit', 'the proof is not read', False),
+    (r'`omega`: the goal does not follow', 'the numbers do not add up', True),
+    (r'`omega`', '`omega` finds no proof', True),
+    (r'no proof was found|`search`', '`search` finds no proof', True),
+    (r'differ only where one has (`[^`]*`)[^`]*and the other has (`[^`]*`)', r'expected \1, found \2', True),
+    (r'two types are (`[^`]*`) \(expected\) and (`[^`]*`) \(found\)', r'expected \1, found \2', True),
+    (r'no occurrence of', 'what is rewritten is not there', True),
+    (r'two ends are equal|the two types|but this has type|BoundaryMismatch', 'the two sides are not equal', True),
+]
+
+
+def first_error(log):
+    """(file below the crate, declaration, message) of the first error in a check's output, or None."""
+    m = re.search(r'(?m)^(\S+?):\d+:\d+: error(?:: `([^`]+)`:|:)?(.*(?:\n  .*)*)', log)
+    return m and (re.sub(r'.*?/((?:src|specs|proofs)/)', r'\1', m[1]), m[2] or '', m[3].strip())
+
+
+def kind_of(message):
+    """(in words, whether a fact is lost)"""
+    for pattern, words, lost in ERRORS:
+        m = re.search(pattern, message)
+        if m:
+            words = shorten(m.expand(words), 400)
+            return (words if len(words) < 120 else 'the two sides are not equal'), lost
+    return 'not known: ' + message[:80], False
+
+
+def where_of(file, declaration):
+    """A function for what stands in its folder of proofs/, else the law or definition."""
+    m = re.match(r'proofs/(.+)/Proof\.antt$', file)
+    return '::'.join(m[1].split('/')) if m else f'`{declaration}`' if declaration else '-'
