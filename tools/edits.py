@@ -1,7 +1,8 @@
 """edits: small wrong changes as text, and what the check says of them, for tools/proof (must-fail edits) and tools/twins.
 
 `file: PATH` holds for the pairs of lines `old: TEXT` and `new: TEXT` after it; `# ..` says what the edit shows. TEXT is one line, and
-`old` stands in its file exactly once.
+`old` stands in its file exactly once. After `all: FOLDER` (twins alone) `old` is changed wherever it stands in code, definitions and
+proofs below that folder, once at least. All pairs are made at once, of the text as it was.
 """
 import collections
 import os
@@ -16,8 +17,8 @@ def parse(text):
         word, _, rest = line.partition(' ')
         if word == '#':
             says.append(rest)
-        elif word == 'file:':
-            file = rest
+        elif word in ('file:', 'all:'):
+            file = rest if word == 'file:' else rest.rstrip('/') + '/'
         elif word == 'old:':
             old = rest
         elif word == 'new:':
@@ -26,22 +27,34 @@ def parse(text):
     return Edit(' '.join(says), pairs)
 
 
+def places(folder, file, old):
+    """(file, place) of each `old` that a pair changes; ValueError where they are not as many as they must be."""
+    files = [file]
+    if file.endswith('/'):
+        below = os.walk(os.path.join(folder, file))
+        files = sorted(os.path.relpath(os.path.join(top, f), folder) for top, _, names in below for f in names if f.endswith(('.rt', '.antt')))
+    elif not os.path.isfile(os.path.join(folder, file)):
+        raise ValueError(f'there is no {file}')
+    found = [(f, m.start()) for f in files for m in re.finditer(re.escape(old), open(os.path.join(folder, f)).read())] if old else []
+    if not found or len(found) > 1 and not file.endswith('/'):
+        raise ValueError(f'{file}: `{old}` stands there {len(found)} times')
+    return found
+
+
 def edited(folder, pairs):
-    """{file: its text with the pairs made, all at once}; ValueError where an `old` does not stand there exactly once."""
+    """{file: its text with the pairs made}"""
+    cuts = collections.defaultdict(list)
+    for file, old, new in pairs:
+        for f, at in places(folder, file, old):
+            cuts[f].append((at, at + len(old), new))
     texts = {}
-    for file in {file for file, _, _ in pairs}:
-        path = os.path.join(folder, file or '')
-        if not os.path.isfile(path):
-            raise ValueError(f'there is no {file}')
-        text, cuts = open(path).read(), []
-        for old, new in [(old, new) for f, old, new in pairs if f == file]:
-            count = text.count(old) if old else 0
-            if count != 1:
-                raise ValueError(f'{file}: `{old}` stands there {count} times, not once')
-            cuts.append((text.index(old), old, new))
-        for at, old, new in sorted(cuts, reverse=True):
-            text = text[:at] + new + text[at + len(old):]
-        texts[file] = text
+    for f, changes in cuts.items():
+        text, last = open(os.path.join(folder, f)).read(), None
+        for at, end, new in sorted(changes, reverse=True):
+            if last is not None and end > last:
+                raise ValueError(f'{f}: two edits overlap')
+            text, last = text[:at] + new + text[end:], at
+        texts[f] = text
     return texts
 
 
