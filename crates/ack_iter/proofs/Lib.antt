@@ -1,4 +1,5 @@
 -- `Ranges` has that the reader hands out the scan's ranges, `Onces` that each public function has only one answer; `Tails` is for `rest_of`.
 pub mod Tails
+pub mod Lent
 pub mod Ranges
 pub mod Onces

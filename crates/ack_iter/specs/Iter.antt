@@ -21,3 +21,10 @@ reading zero s largest = []
 reading (suc n) s largest =
     let t = ackStep s 0 largest in
     goOn (t .step) (reading n (drop (t .next) s) (t .largest))
+
+-- what a reader says after n other steps
+unfoldable pub nth : ℕ → List ℕ → ℕ → Step
+nth zero s largest = ackStep s 0 largest .step
+nth (suc n) s largest =
+    let t = ackStep s 0 largest in
+    nth n (drop (t .next) s) (t .largest)

@@ -6,7 +6,7 @@ use shared::FullNumber;
 ghost use mathlib.Core.Path.{_≡_};
 ghost use Rattle.ack.specs.Said.{stepOf, takenOf};
 ghost use Rattle.ack.specs.Step.{ackStep};
-ghost use Rattle.ack_iter.specs.Iter.{taken, Rest};
+ghost use Rattle.ack_iter.specs.Iter.{taken, Rest, nth};
 
 pub struct AckIter<'a> {
     largest: FullNumber,
@@ -52,4 +52,17 @@ impl<'a> AckIter<'a> {
         self.data = rest_of(data, t.next);
         t.answer
     }
+}
+
+// What a reader of these blocks says after n other steps: one reader, stepped n times, and once more.
+pub fn nth_range(largest: FullNumber, blocks: &[u8], n: usize) -> AckStep
+    ensures { λ r. ⌜ stepOf r ≡ nth n (now (blocks .entry)) (largest .0) ⌝ }
+{
+    let mut it = AckIter::new(largest, blocks);
+    let mut left = n;
+    while 0 < left {
+        it.next();
+        left = left - 1;
+    }
+    it.next()
 }
