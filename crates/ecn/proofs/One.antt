@@ -11,24 +11,24 @@ use Rattle.ecn.specs.Counts.{saidOf, countOf}
 use Rattle.ecn.specs.Said.{moreOf, raiseOf}
 use Rattle.ecn.specs.declared.Raise.{Raise}
 use Rattle.ecn.specs.declared.Raise.the-variants.{Done, Refused}
-use Rattle.ecn.specs.declared.Raised.{Raised}
+use Rattle.ecn.specs.declared.Counted.{Counted}
 
-pub more-count : (n : ℕ) (r : Raised) → r ≡ moreOf n → r .count ≡ countOf n
+pub more-count : (n : ℕ) (r : Counted) → r ≡ moreOf n → r .count ≡ countOf n
 unfolding moreOf countOf if_then_else_
-more-count n r e = ap (λ (m : Raised). m .count) e ∙ go (ltb n (2 ^ 62 - 1))
+more-count n r e = ap (λ (m : Counted). m .count) e ∙ go (ltb n (2 ^ 62 - 1))
   where
-    made : Bool → Raised
+    made : Bool → Counted
     made t = if t then (record { count = n + 1; answer = Done }) else (record { count = n; answer = Refused ref.Argument })
 
     go : (t : Bool) → made t .count ≡ (if t then n + 1 else n)
     go true = refl
     go false = refl
 
-pub more-said : (n : ℕ) (r : Raised) → r ≡ moreOf n → raiseOf (r .answer) ≡ saidOf n
+pub more-said : (n : ℕ) (r : Counted) → r ≡ moreOf n → raiseOf (r .answer) ≡ saidOf n
 unfolding moreOf saidOf raiseOf if_then_else_
-more-said n r e = ap (λ (m : Raised). raiseOf (m .answer)) e ∙ go (ltb n (2 ^ 62 - 1))
+more-said n r e = ap (λ (m : Counted). raiseOf (m .answer)) e ∙ go (ltb n (2 ^ 62 - 1))
   where
-    made : Bool → Raised
+    made : Bool → Counted
     made t = if t then (record { count = n + 1; answer = Done }) else (record { count = n; answer = Refused ref.Argument })
 
     go : (t : Bool) → raiseOf (made t .answer) ≡ (if t then ok tt else no 14)

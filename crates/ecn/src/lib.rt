@@ -25,22 +25,22 @@ pub enum Raise {
 }
 
 // A count, and whether it was raised.
-struct Raised {
+struct Counted {
     count: u64,
     answer: Raise,
 }
 
 // A count raised by one, or as it was with the refusal.
-fn more(n: u64) -> Raised
+fn more(n: u64) -> Counted
     ensures { λ r. ⌜ r ≡ moreOf n ⌝ }
 {
     if n < 0x3fff_ffff_ffff_ffff {
-        Raised {
+        Counted {
             count: n + 1,
             answer: Raise::Done,
         }
     } else {
-        Raised {
+        Counted {
             count: n,
             answer: Raise::Refused(Refusal::Argument),
         }
@@ -70,4 +70,19 @@ impl EcnCounts {
             }
         }
     }
+}
+
+// The counts afterwards, and whether one was raised.
+pub struct After {
+    pub counts: EcnCounts,
+    pub answer: Raise,
+}
+
+// The count of a codepoint raised, by value: for callers that no proof by hand covers.
+pub fn raised(counts: EcnCounts, rhs: EcnCodepoint) -> After
+    ensures { λ r. ⌜ (r .counts ≡ countsAfter counts (ecnOf rhs)) × (raiseOf (r .answer) ≡ saidAfter counts (ecnOf rhs)) ⌝ }
+{
+    let mut c = counts;
+    let answer = c.add_assign(rhs);
+    After { counts: c, answer }
 }
