@@ -1,5 +1,6 @@
 // The reader of an ACK frame's ranges (frame.rs, AckIter): it holds the largest number of the range to come and the bytes of the
-// blocks. Its two functions are proved by hand; the work is in `step` and `rest_of`, which need none.
+// blocks. Its two functions, and `nth_range`, which steps a reader for callers with plain values, are proved by hand; the work is
+// in `step` and `rest_of`, which need none.
 use ack::AckStep;
 use ack::AckTaken;
 use shared::FullNumber;
@@ -54,7 +55,7 @@ impl<'a> AckIter<'a> {
     }
 }
 
-// What a reader of these blocks says after n other steps: one reader, stepped n times, and once more.
+// What a reader of these blocks says after n other steps (Iterator::nth): one reader, stepped n times and once more.
 pub fn nth_range(largest: FullNumber, blocks: &[u8], n: usize) -> AckStep
     ensures { λ r. ⌜ stepOf r ≡ nth n (now (blocks .entry)) (largest .0) ⌝ }
 {

@@ -1,6 +1,5 @@
 -- `ecn::EcnCounts::add_assign` meets its contract: a walk of its MIR, by hand. The borrow is opened; the `match` goes by cases on the mark, and in each arm one count is passed to `more` and what it returns is stored; the borrow is closed at the counts with that one changed.
 -- All that the proof knows of `more` is that it meets its contract. All that is held is plain data, so what a value owns is never carried: `owned` makes it anew.
--- Assumes nothing.
 use mathlib.Core.Path.{_≡_, refl, ap, subst}
 use Prim.Native.Nat.{ℕ, zero, suc, _<_, _^_}
 use mathlib.Core.List.{[], _∷_, List}
@@ -45,7 +44,7 @@ use denote.Exit.{yes}
 use Rattle.shared.specs.Said.{ecnOf}
 use Rattle.ecn.specs.Counts.{countsAfter, saidAfter}
 use Rattle.ecn.specs.Said.{moreOf, raiseOf}
-use Rattle.ecn.proofs.One.{more-count, more-said}
+use Rattle.ecn.proofs.Count.{more-count, more-said}
 use Rattle.ecn.specs.declared.EcnCounts.{EcnCounts}
 use Rattle.shared.specs.declared.codepoint.EcnCodepoint.{EcnCodepoint}
 use Rattle.shared.specs.declared.codepoint.EcnCodepoint.the-variants.{Ect0, Ect1, Ce}

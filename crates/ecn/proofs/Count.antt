@@ -1,15 +1,12 @@
--- One count: what `more` returned says, and what it makes of the count. Assumes nothing.
+-- What `more` says of a count, and what it makes of it.
 use mathlib.Core.Path.{_≡_, refl, ap, _∙_}
 use mathlib.Core.Bool.{Bool, true, false}
 use Prim.Native.Nat.{ℕ, _+_, _-_, _^_}
 use lib.Dec.{ltb}
-use Rattle.coding.specs.Words.{if_then_else_, Answer, no, ok}
+use Rattle.coding.specs.Words.{if_then_else_, no, ok}
 use Rattle.coding.specs.declared.refusal.Refusal.the-variants as ref
-use Rattle.coding.proofs.Inverse.{one-by, answered}
-use Rattle.coding.proofs.Numbers.{refusalOf, refusal-back}
 use Rattle.ecn.specs.Counts.{saidOf, countOf}
 use Rattle.ecn.specs.Said.{moreOf, raiseOf}
-use Rattle.ecn.specs.declared.Raise.{Raise}
 use Rattle.ecn.specs.declared.Raise.the-variants.{Done, Refused}
 use Rattle.ecn.specs.declared.Counted.{Counted}
 
@@ -34,11 +31,3 @@ more-said n r e = ap (λ (m : Counted). raiseOf (m .answer)) e ∙ go (ltb n (2 
     go : (t : Bool) → raiseOf (made t .answer) ≡ (if t then ok tt else no 14)
     go true = refl
     go false = refl
-
-pub raise-one : (x y : Raise) (g : Answer Unit) → raiseOf x ≡ g → raiseOf y ≡ g → x ≡ y
-unfolding raiseOf
-raise-one = one-by raiseOf (answered (λ k. Refused (refusalOf k)) (λ _. Done)) back
-  where
-    back : (r : Raise) → answered (λ k. Refused (refusalOf k)) (λ _. Done) (raiseOf r) ≡ r
-    back Done = refl
-    back (Refused why) = ap Refused (refusal-back why)
