@@ -19,7 +19,7 @@ use Rattle.ack.specs.Step.{Step, range, end, refused, Taken, refuse, ackStep, g
 use Rattle.ack.proofs.Laws.{Inside, scan-inside}
 use Rattle.ack.proofs.Ranges as stepped
 use Rattle.ack.proofs.Ranges.{part-length}
-use Rattle.ack_iter.specs.Iter.{reading, nth}
+use Rattle.ack_iter.specs.Iter.{reading, stepAfter}
 
 -- ---- a step over what is left of a slice after k bytes, and one over the slice
 
@@ -91,7 +91,7 @@ scan-ranges s at largest n e k small o short h =
     let few : length (partOf s (record { start = at; len = e - at })) ≤ 65527 = rw (← all, part-length s at (e - at) (omega arith)) short in
     reading-steps (suc (suc k)) (partOf s (record { start = at; len = e - at })) 0 largest few ∙ stepped.scan-ranges s at largest n e k small o short h
 
--- ---- `nth` is what stands at that place of all that the reader says
+-- ---- `stepAfter` is what stands at that place of all that the reader says
 
 first-said : (x : Step) (more : List Step) → getD (goOn x more) 0 end ≡ x
 unfolding goOn
@@ -105,8 +105,8 @@ later-said (range r) more n h = (omega arith, refl)
 later-said end more n h = absurd (omega arith)
 later-said (refused k) more n h = absurd (omega arith)
 
-pub nth-reading : (m n : ℕ) (s : List ℕ) (largest : ℕ) → n < length (reading m s largest) → getD (reading m s largest) n end ≡ nth n s largest
-unfolding reading nth
+pub nth-reading : (m n : ℕ) (s : List ℕ) (largest : ℕ) → n < length (reading m s largest) → getD (reading m s largest) n end ≡ stepAfter n s largest
+unfolding reading stepAfter
 nth-reading zero n s largest h = absurd (omega arith)
 nth-reading (suc m) zero s largest h = first-said (ackStep s 0 largest .step) _
 nth-reading (suc m) (suc n) s largest h = let a = later-said (ackStep s 0 largest .step) _ n h in a .1 ∙ nth-reading m n _ _ (a .0)

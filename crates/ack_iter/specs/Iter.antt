@@ -23,8 +23,8 @@ reading (suc n) s largest =
     goOn (t .step) (reading n (drop (t .next) s) (t .largest))
 
 -- what a reader says after n other steps
-unfoldable pub nth : ℕ → List ℕ → ℕ → Step
-nth zero s largest = ackStep s 0 largest .step
-nth (suc n) s largest =
+unfoldable pub stepAfter : ℕ → List ℕ → ℕ → Step
+stepAfter zero s largest = ackStep s 0 largest .step
+stepAfter (suc n) s largest =
     let t = ackStep s 0 largest in
-    nth n (drop (t .next) s) (t .largest)
+    stepAfter n (drop (t .next) s) (t .largest)

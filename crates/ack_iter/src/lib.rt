@@ -7,7 +7,7 @@ use shared::FullNumber;
 ghost use mathlib.Core.Path.{_≡_};
 ghost use Rattle.ack.specs.Said.{stepOf, takenOf};
 ghost use Rattle.ack.specs.Step.{ackStep};
-ghost use Rattle.ack_iter.specs.Iter.{taken, Rest, nth};
+ghost use Rattle.ack_iter.specs.Iter.{taken, Rest, stepAfter};
 
 pub struct AckIter<'a> {
     largest: FullNumber,
@@ -57,7 +57,7 @@ impl<'a> AckIter<'a> {
 
 // What a reader of these blocks says after n other steps (Iterator::nth): one reader, stepped n times and once more.
 pub fn nth_range(largest: FullNumber, blocks: &[u8], n: usize) -> AckStep
-    ensures { λ r. ⌜ stepOf r ≡ nth n (now (blocks .entry)) (largest .0) ⌝ }
+    ensures { λ r. ⌜ stepOf r ≡ stepAfter n (now (blocks .entry)) (largest .0) ⌝ }
 {
     let mut it = AckIter::new(largest, blocks);
     let mut left = n;

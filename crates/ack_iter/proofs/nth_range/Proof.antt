@@ -58,7 +58,7 @@ use Rattle.ack.specs.Step.{Step, ackStep}
 use Rattle.ack.specs.declared.AckStep.{AckStep}
 use Rattle.ack.proofs.AckStep as N
 use Rattle.ack.proofs.AckStep.Laws as N′
-use Rattle.ack_iter.specs.Iter.{taken, Rest, nth}
+use Rattle.ack_iter.specs.Iter.{taken, Rest, stepAfter}
 use Rattle.ack_iter.specs.declared.AckIter.{AckIter}
 use Rattle.ack_iter.proofs.AckIter as T
 use Rattle.ack_iter.proofs.AckIter.Laws as T′
@@ -94,13 +94,13 @@ behind return = none
 behind (call f xs p) = none
 
 -- no step is left, and one that is taken
-at-zero : (m : ℕ) (d : List ℕ) (l : ℕ) (x : Step) → m ≤ 0 → nth m d l ≡ x → ackStep d 0 l .step ≡ x
-unfolding nth
+at-zero : (m : ℕ) (d : List ℕ) (l : ℕ) (x : Step) → m ≤ 0 → stepAfter m d l ≡ x → ackStep d 0 l .step ≡ x
+unfolding stepAfter
 at-zero zero d l x z e = e
 at-zero (suc m) d l x z e = absurd (omega arith)
 
-at-more : (m : ℕ) (d d′ : List ℕ) (l l′ : ℕ) (x : Step) → 0 < m → l′ ≡ ackStep d 0 l .largest → d′ ≡ skip (ackStep d 0 l .next) d → nth m d l ≡ x → nth (m - 1) d′ l′ ≡ x
-unfolding nth
+at-more : (m : ℕ) (d d′ : List ℕ) (l l′ : ℕ) (x : Step) → 0 < m → l′ ≡ ackStep d 0 l .largest → d′ ≡ skip (ackStep d 0 l .next) d → stepAfter m d l ≡ x → stepAfter (m - 1) d′ l′ ≡ x
+unfolding stepAfter
 at-more zero d d′ l l′ x z a b e = absurd (omega arith)
 at-more (suc m) d d′ l l′ x z a b e = let p : suc m - 1 ≡ m = omega arith in rw (p, a, b) e
 
@@ -117,7 +117,7 @@ record Left (x : Step) : Type 0 where
   m : ℕ
   it : AckIter
   small : m < 2 ^ 64
-  same : nth m (now (it .«data»)) (it .largest .0) ≡ x
+  same : stepAfter m (now (it .«data»)) (it .largest .0) ≡ x
 
 abbrev Fewer : (x : Step) → Left x → Left x → Type 0
 Fewer x a b = a .m < b .m
@@ -148,7 +148,7 @@ module _ {M : Type 1} (𝓤 : URA M) (H : Heap 𝓤) (A : Atoms 𝓤) (W : Given
 
   -- what the answer is to be
   abbrev Said : Step
-  Said = nth k (now s) (n .0)
+  Said = stepAfter k (now s) (n .0)
 
   abbrev Post : Val → SProp 𝓤
   Post = walkOf 𝓤 H A nth-range.ended stayed (nth-range.clauses 𝓤 H A at-mem run) .post (((κ, tt), (q, tt), tt, (n, (s, (k, tt))), at), tt)
@@ -182,7 +182,7 @@ module _ {M : Type 1} (𝓤 : URA M) (H : Heap 𝓤) (A : Atoms 𝓤) (W : Given
 
   -- the loop begins with the reader that was made, and n steps left
   begun : (r : AckIter) → Made r → k < 2 ^ 64 → Left Said
-  begun r made gk = record { m = k; it = r; small = gk; same = ap₂ (λ (l : FullNumber) (d : RefT (List ℕ)). nth k (now d) (l .0)) (made .0) (made .1) }
+  begun r made gk = record { m = k; it = r; small = gk; same = ap₂ (λ (l : FullNumber) (d : RefT (List ℕ)). stepAfter k (now d) (l .0)) (made .0) (made .1) }
 
   -- the call of `next`, on the reader r in the local at l, lent for ν ∷ κ under the name γ
   abbrev lent : AckIter → ℕ → GName → RefT AckIter × Unit {0}
@@ -225,7 +225,7 @@ module _ {M : Type 1} (𝓤 : URA M) (H : Heap 𝓤) (A : Atoms 𝓤) (W : Given
     steps-on : {Γ : List (Item 𝓤)} {E : Env 𝓤 H} {Q : Kit.Post 𝓤 H} {xs : List Operand} {d : Place} {rest : Code} (r : AckIter) (l : ℕ)
         → ((ν : ℕ) (γ : GName) → Opds (Go {0}) W (raw (Next 𝓤 H A at-mem run .pre (to-next r l ν γ)) ∷ ‵ (flent (ν ∷ κ) (Body (mem R′) l 0 γ)) ∷ raw (Back 𝓤 H A W ν κ q) ∷ Γ) E xs (vptr l 0 ∷ []))
         → ((w : Val) (t : AckStep) (z : AckIter) → Stepped r t z
-            → Sq W (‵ (fat fullShare (T′.mir erased) l 0 (T′.lowered z)) ∷ ‵ (R′ .own z (T′.lowered z ∷ [])) ∷ ‵ (flft κ q) ∷ ‵ (N.the-row .own t (w ∷ [])) ∷ Γ) (lands C Λ E d w rest Q))
+        → Sq W (‵ (fat fullShare (T′.mir erased) l 0 (T′.lowered z)) ∷ ‵ (R′ .own z (T′.lowered z ∷ [])) ∷ ‵ (flft κ q) ∷ ‵ (N.the-row .own t (w ∷ [])) ∷ Γ) (lands C Λ E d w rest Q))
         → Sq W (‵ (fat fullShare (T′.mir erased) l 0 (T′.lowered r)) ∷ ‵ (R′ .own r (T′.lowered r ∷ [])) ∷ ‵ (flft κ q) ∷ Γ) (runs C Λ E (seq (call #next xs d) rest) Q)
     steps-on r l reads go =
         use1 W (‵ (cellAt fullShare (R′ .mir) (T′.lowered r ∷ []) l 0)) (W .laws .at-raw fullShare (T′.mir erased) l 0 (T′.lowered r)) $ use2 W (‵ (mem R′ .lies r l 0)) (lies-in 𝓤 H A W R′ r l 0 (T′.lowered r ∷ [])) $
