@@ -23,7 +23,7 @@ module _ (s : List ℕ) (at len : ℕ) (inside : at + len ≤ length s) where
   pub part-length : length part ≡ len
   part-length = simp (length-take, length-drop) (omega arith)
 
-  pub var-part : (p v n : ℕ) → at ≤ p → n ≤ at + len → varAt s p ≡ got v n → varAt part (p - at) ≡ got v (n - at)
+  var-part : (p v n : ℕ) → at ≤ p → n ≤ at + len → varAt s p ≡ got v n → varAt part (p - at) ≡ got v (n - at)
   var-part p v n h k e =
       let back : at + (p - at) ≡ p = omega arith in
       let all : part ++ drop len (drop at s) ≡ drop at s = take-append-drop len (drop at s) in
@@ -36,20 +36,20 @@ then-got : {A : Type 0} (x stop : A) (m : Got ℕ) (f : ℕ → ℕ → A) (v n 
 unfolding andThen
 then-got x stop m f v n e h = rw e h
 
-abbrev pub one : ℕ → ℕ → Step
+abbrev one : ℕ → ℕ → Step
 one smallest largest = range (record { smallest = smallest; largest = largest })
 
 module _ (d : List ℕ) (i largest : ℕ) (short : length d ≤ 65527) (small : largest < 2 ^ 62) where
-  pub at-end : length d ≤ i → record { step = end; largest = largest; next = i } ≡ ackStep d i largest
+  at-end : length d ≤ i → record { step = end; largest = largest; next = i } ≡ ackStep d i largest
   unfolding ackStep
   at-end h = search choices
 
   module _ (block mid : ℕ) (e : varAt d i ≡ got block mid) (enough : block ≤ largest) (begun : i < length d) where
-    pub at-last : length d ≤ mid → record { step = one (largest - block) largest; largest = largest; next = mid } ≡ ackStep d i largest
+    at-last : length d ≤ mid → record { step = one (largest - block) largest; largest = largest; next = mid } ≡ ackStep d i largest
     unfolding ackStep
     at-last h = search (then-got, choices) depth 40 fits 4000
 
-    pub at-more : (gap next : ℕ) → varAt d mid ≡ got gap next → gap + 2 ≤ largest - block → mid < length d → next < length d
+    at-more : (gap next : ℕ) → varAt d mid ≡ got gap next → gap + 2 ≤ largest - block → mid < length d → next < length d
         → record { step = one (largest - block) largest; largest = largest - block - (gap + 2); next = next } ≡ ackStep d i largest
     unfolding ackStep
     at-more gap next f h k l = search (then-got, choices) depth 40 fits 4000

@@ -5,12 +5,11 @@ use mathlib.Core.List.{List, [], _∷_, _++_, map}
 use Prim.Native.Nat.{ℕ, zero, suc, _+_, _-_, _≤_, _<_, _^_}
 use native.Mathlib.Nat.{add-zero}
 use native.Mathlib.Omega.{arith}
-use lib.Dec.{ltb, leb}
+use lib.Dec.{leb}
 use lib.ListN.{length, drop, getD, length-drop}
 use lib.Seq.{drop-drop}
 use borrow.Author.Tests.{le-ltb, le-leb, lt-leb, leb-true, leb-false}
 use Rattle.coding.specs.Words.{if_then_else_, Got, cut, got, andThen, ok}
-use Rattle.coding.specs.Varint.{varAt}
 use Rattle.coding.specs.Places.{partOf}
 use Rattle.coding.proofs.Laws.{part-in}
 use Rattle.coding.proofs.Shift.{further, var-behind}
