@@ -109,3 +109,10 @@ unfolding reading stepAfter
 nth-reading zero n s largest h = absurd (omega arith)
 nth-reading (suc m) zero s largest h = first-said (ackStep s 0 largest .step) _
 nth-reading (suc m) (suc n) s largest h = let a = later-said (ackStep s 0 largest .step) _ n h in a .1 ∙ nth-reading m n _ _ (a .0)
+
+-- so a reader over what the scan took says the scan's ranges in their order, and then the end
+pub scan-nth : (s : List ℕ) (at largest n e i : ℕ) → largest < 2 ^ 62 → scanAt s at largest n ≡ ok e → e - at ≤ 65527 → i < length (map range (rangesAt s at largest n) ++ (end ∷ []))
+    → stepAfter i (partOf s (record { start = at; len = e - at })) largest ≡ getD (map range (rangesAt s at largest n) ++ (end ∷ [])) i end
+scan-nth s at largest n e i small o short h =
+    let all = scan-ranges s at largest n e n small o short (omega arith) in
+    sym (nth-reading (suc (suc n)) i (partOf s (record { start = at; len = e - at })) largest (rw all h)) ∙ ap (λ (l : List Step). getD l i end) all
