@@ -1,16 +1,15 @@
--- Over what the scan took, stepping hands out exactly the scan's ranges, largest first, and ends. Assumes nothing.
+-- Over what the scan took, stepping hands out exactly the scan's ranges, largest first, and ends.
 use mathlib.Core.Path.{_≡_, refl, sym, ap, _∙_}
 use mathlib.Core.List.{List, [], _∷_, _++_, map}
-use Prim.Native.Nat.{ℕ, zero, suc, _+_, _-_, _%_, _≤_, _<_, _^_}
+use Prim.Native.Nat.{ℕ, zero, suc, _+_, _-_, _≤_, _<_, _^_}
 use native.Mathlib.Omega.{arith}
 use lib.ListN.{length, take, drop, length-take, length-drop, take-append-drop}
-use lib.Seq.{getD-take, getD-drop, drop-drop, drop-append-le, take-append-le}
 use Rattle.coding.specs.Words.{Got, got, andThen, ok}
-use Rattle.coding.specs.Bytes.{byteAt, be}
-use Rattle.coding.specs.Varint.{varLen, varAt}
+use Rattle.coding.specs.Varint.{varAt}
 use Rattle.coding.specs.Places.{partOf}
-use Rattle.coding.proofs.Laws.{read-var, var-some, var-inside, part-in}
+use Rattle.coding.proofs.Laws.{var-inside, part-in}
 use Rattle.coding.proofs.Rules.{choices}
+use Rattle.coding.proofs.Shift.{further-got, var-behind, var-within}
 use Rattle.ack.specs.Scan.{Range, rounds, scanAt, roundRanges, rangesAt}
 use Rattle.ack.specs.Step.{Step, range, end, ackStep, goOn, stepping}
 use Rattle.ack.proofs.Laws.{Inside, rounds-inside, scan-inside, then-ok, if-ok}
@@ -24,29 +23,12 @@ module _ (s : List ℕ) (at len : ℕ) (inside : at + len ≤ length s) where
   pub part-length : length part ≡ len
   part-length = simp (length-take, length-drop) (omega arith)
 
-  -- the first k bytes from i on
-  part-run : (i k : ℕ) → i + k ≤ len → take k (drop i part) ≡ take k (drop (at + i) s)
-  part-run i k h =
-      let l : List ℕ = drop at s in
-      let a : i ≤ length (take len l) = rw part-length (omega arith) in
-      let b : k ≤ length (drop i (take len l)) = rw (length-drop, part-length) (omega arith) in
-      let whole : take k (drop i (take len l ++ drop len l)) ≡ take k (drop i (take len l)) =
-      rw (drop-append-le i (take len l) (drop len l) a) (take-append-le k (drop i (take len l)) (drop len l) b) in
-      sym whole ∙ rw (take-append-drop len l, drop-drop)
-
-  pub var-part : (p v n : ℕ) → at ≤ p → n ≤ at + len → varAt s p ≡ got v n → varAt part (p - at) ≡ got v (n - at)
+  var-part : (p v n : ℕ) → at ≤ p → n ≤ at + len → varAt s p ≡ got v n → varAt part (p - at) ≡ got v (n - at)
   var-part p v n h k e =
-      let r = read-var s p v n e in
-      let in' = var-inside s p v n e in
-      let i : ℕ = p - at in
-      let m : ℕ = varLen (byteAt s p) in
-      let back : at + i ≡ p = omega arith in
-      let first : byteAt part i ≡ byteAt s p = getD-take len (drop at s) i 0 (omega arith) ∙ rw (getD-drop, back) in
-      let after : at + (i + 1) ≡ p + 1 = omega arith in
-      let past : i + m ≡ n - at = omega arith in
-      let more : take (m - 1) (drop (i + 1) part) ≡ take (m - 1) (drop (p + 1) s) = part-run (i + 1) (m - 1) (omega arith) ∙ rw after in
-      let val : v ≡ be (byteAt part i % 64) (take (m - 1) (drop (i + 1) part)) = rw (first, more) (r .value) in
-      sym (var-some part i m (rw part-length (omega arith)) (rw first) v (rw part-length (omega arith)) val) ∙ ap (got v) past
+      let back : at + (p - at) ≡ p = omega arith in
+      let all : part ++ drop len (drop at s) ≡ drop at s = take-append-drop len (drop at s) in
+      let r : varAt (drop at s) (p - at) ≡ got v (n - at) = further-got at (varAt (drop at s) (p - at)) v n (sym (var-behind s at (p - at)) ∙ rw back e) in
+      var-within part (drop len (drop at s)) (p - at) v (n - at) (rw part-length (omega arith)) (rw all r)
 
 -- ---- the cases of a step
 
@@ -54,20 +36,20 @@ then-got : {A : Type 0} (x stop : A) (m : Got ℕ) (f : ℕ → ℕ → A) (v n 
 unfolding andThen
 then-got x stop m f v n e h = rw e h
 
-abbrev pub one : ℕ → ℕ → Step
+abbrev one : ℕ → ℕ → Step
 one smallest largest = range (record { smallest = smallest; largest = largest })
 
 module _ (d : List ℕ) (i largest : ℕ) (short : length d ≤ 65527) (small : largest < 2 ^ 62) where
-  pub at-end : length d ≤ i → record { step = end; largest = largest; next = i } ≡ ackStep d i largest
+  at-end : length d ≤ i → record { step = end; largest = largest; next = i } ≡ ackStep d i largest
   unfolding ackStep
   at-end h = search choices
 
   module _ (block mid : ℕ) (e : varAt d i ≡ got block mid) (enough : block ≤ largest) (begun : i < length d) where
-    pub at-last : length d ≤ mid → record { step = one (largest - block) largest; largest = largest; next = mid } ≡ ackStep d i largest
+    at-last : length d ≤ mid → record { step = one (largest - block) largest; largest = largest; next = mid } ≡ ackStep d i largest
     unfolding ackStep
     at-last h = search (then-got, choices) depth 40 fits 4000
 
-    pub at-more : (gap next : ℕ) → varAt d mid ≡ got gap next → gap + 2 ≤ largest - block → mid < length d → next < length d
+    at-more : (gap next : ℕ) → varAt d mid ≡ got gap next → gap + 2 ≤ largest - block → mid < length d → next < length d
         → record { step = one (largest - block) largest; largest = largest - block - (gap + 2); next = next } ≡ ackStep d i largest
     unfolding ackStep
     at-more gap next f h k l = search (then-got, choices) depth 40 fits 4000

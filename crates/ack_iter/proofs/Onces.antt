@@ -1,4 +1,4 @@
--- The reader's two functions are proved by hand and have no `Reads`: only one answer, and only one state of the reader, meets their contracts. Assumes nothing.
+-- Only one answer meets the contract of each public function. The reader's own two have no `Reads`: only one state of the reader meets their contracts too.
 use Prim.Native.Nat.{ℕ}
 use mathlib.Core.Path.{_∙_, sym, refl}
 use mathlib.Core.List.{List}
@@ -9,6 +9,8 @@ use Rattle.ack.proofs.Inverse.{step-one}
 use Rattle.ack_iter.specs.declared.AckIter.{AckIter}
 use Rattle.ack_iter.proofs.AckIter.new as new
 use Rattle.ack_iter.proofs.AckIter.next as next
+use Rattle.ack_iter.proofs.nth_range as nth-range
+use Rattle.ack_iter.proofs.nth_range.Reads as nth-range-reads
 
 -- the whole reader, its reference too: `new` hands back the reference that it got
 new-once : OnceOf new.ended (λ M. new.clauses) (λ κs x s. x)
@@ -33,3 +35,7 @@ next-once = record {
     ((p .1 ∙ sym (q .1)) i, ((p .2 .block ∙ sym (q .2 .block)) i, (p .2 .offset ∙ sym (q .2 .offset)) i), (p .2 .bytes ∙ sym (q .2 .bytes)) i),
   );
 }
+
+nth-range-once : Once nth-range.ended nth-range-reads.Post (λ κs x s. x)
+unfolding Once
+nth-range-once κs a x y s t p q = step-one x y _ p q

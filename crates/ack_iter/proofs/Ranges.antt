@@ -1,108 +1,118 @@
--- Over what the scan took, the reader hands out exactly the scan's ranges, largest first, and ends. Assumes nothing.
+-- A reader over the bytes that are left says what steps over the whole slice say: so over what the scan took it hands out exactly the scan's ranges, largest first, and ends.
 use mathlib.Core.Path.{_≡_, refl, sym, ap, _∙_}
+use mathlib.Core.Bool.{Bool, true, false}
 use mathlib.Core.List.{List, [], _∷_, _++_, map}
 use Prim.Native.Nat.{ℕ, zero, suc, _+_, _-_, _≤_, _<_, _^_}
-use native.Mathlib.Nat.{sub-zero, zero-sub, suc-sub-suc}
+use native.Mathlib.Nat.{add-zero}
 use native.Mathlib.Omega.{arith}
-use lib.ListN.{length, take, drop, length-drop}
-use lib.Seq.{drop-drop, take-nil}
-use Rattle.coding.specs.Words.{got, ok}
-use Rattle.coding.specs.Varint.{varAt}
+use lib.Dec.{leb}
+use lib.ListN.{length, drop, getD, length-drop}
+use lib.Seq.{drop-drop}
+use borrow.Author.Tests.{le-ltb, le-leb, lt-leb, leb-true, leb-false}
+use Rattle.coding.specs.Words.{if_then_else_, Got, cut, got, andThen, ok}
 use Rattle.coding.specs.Places.{partOf}
-use Rattle.coding.proofs.Laws.{var-inside, part-in}
-use Rattle.ack.specs.Scan.{Range, rounds, scanAt, roundRanges, rangesAt}
-use Rattle.ack.specs.Step.{Step, range, end, ackStep, goOn}
-use Rattle.ack.proofs.Laws.{Inside, rounds-inside, scan-inside, then-ok, if-ok}
-use Rattle.ack.proofs.Ranges.{var-part, part-length, one, at-end, at-last, at-more, round-range, first-range}
-use Rattle.ack_iter.specs.Iter.{reading}
+use Rattle.coding.proofs.Laws.{part-in}
+use Rattle.coding.proofs.Shift.{further, var-behind}
+use Rattle.ack.specs.Scan.{scanAt, rangesAt}
+use Rattle.ack.specs.Step.{Step, range, end, refused, Taken, refuse, ackStep, goOn, stepping}
+use Rattle.ack.proofs.Laws.{Inside, scan-inside}
+use Rattle.ack.proofs.Ranges as stepped
+use Rattle.ack.proofs.Ranges.{part-length}
+use Rattle.ack_iter.specs.Iter.{reading, stepAfter}
 
-drop-take : (a b : ℕ) (l : List ℕ) → drop a (take b l) ≡ take (b - a) (drop a l)
-drop-take zero b l = rw sub-zero
-drop-take (suc a) zero l = rw zero-sub
-drop-take (suc a) (suc b) [] = sym (take-nil (suc b - suc a))
-drop-take (suc a) (suc b) (x ∷ l) = rw suc-sub-suc (drop-take a b l)
+-- ---- a step over what is left of a slice after k bytes, and one over the slice
 
--- one step, and those after it
-read-on : (n : ℕ) (d : List ℕ) (largest : ℕ) (r : Range) (next low : ℕ) → record { step = range r; largest = low; next = next } ≡ ackStep d 0 largest
-    → reading (suc n) d largest ≡ range r ∷ reading n (drop next d) low
-unfolding reading goOn
-read-on n d largest r next low e = rw (← e)
+abbrev later : ℕ → Taken → Taken
+later k t = record { step = t .step; largest = t .largest; next = k + t .next }
 
-read-end : (n : ℕ) (d : List ℕ) (largest low next : ℕ) → record { step = end; largest = low; next = next } ≡ ackStep d 0 largest
-    → reading (suc n) d largest ≡ end ∷ []
-unfolding reading goOn
-read-end n d largest low next e = rw (← e)
+if-later : (k : ℕ) (b c : Bool) (x y x′ y′ : Taken) → b ≡ c → x ≡ later k x′ → y ≡ later k y′ → (if b then x else y) ≡ later k (if c then x′ else y′)
+unfolding if_then_else_
+if-later k b true x y x′ y′ e f g = rw e f
+if-later k b false x y x′ y′ e f g = rw e g
 
--- the bytes up to the scan's end e, from a place on
-module _ (s : List ℕ) (e : ℕ) (inside : e ≤ length s) where
-  abbrev held : ℕ → List ℕ
-  held p = take (e - p) (drop p s)
+then-later : (k : ℕ) (m g : Got ℕ) (x x′ : Taken) (f f′ : ℕ → ℕ → Taken) → g ≡ further k m → x ≡ later k x′ → ((v n : ℕ) → f v (k + n) ≡ later k (f′ v n)) → andThen g x f ≡ later k (andThen m x′ f′)
+unfolding andThen
+then-later k cut g x x′ f f′ e h more = rw e h
+then-later k (got v n) g x x′ f f′ e h more = rw e (more v n)
 
-  held-drop : (p q : ℕ) → p ≤ q → q ≤ e → drop (q - p) (held p) ≡ held q
-  held-drop p q h k =
-      let a : e - p - (q - p) ≡ e - q = omega arith in
-      let b : p + (q - p) ≡ q = omega arith in
-      drop-take (q - p) (e - p) (drop p s) ∙ rw (a, drop-drop, b)
+module _ (s : List ℕ) (k : ℕ) where
+  size : length (drop k s) ≡ length s - k
+  size = length-drop k s
 
-  held-length : (p : ℕ) → p ≤ e → length (held p) ≡ e - p
-  held-length p h = part-length s p (e - p) (omega arith)
+  over : (n : ℕ) → length s ≤ k + n → leb (length (drop k s)) n ≡ true
+  over n h = le-leb (length (drop k s)) n (rw size (omega arith))
 
-  held-var : (p q v n : ℕ) → p ≤ q → p ≤ e → n ≤ e → varAt s q ≡ got v n → varAt (held p) (q - p) ≡ got v (n - p)
-  held-var p q v n h k l r = var-part s p (e - p) (omega arith) q v n h (omega arith) r
+  within : (n : ℕ) → k + n < length s → leb (length (drop k s)) n ≡ false
+  within n h = lt-leb (length (drop k s)) n (rw size (omega arith))
 
-  held-first : (p v n : ℕ) → p ≤ e → n ≤ e → varAt s p ≡ got v n → varAt (held p) 0 ≡ got v (n - p)
-  held-first p v n k l r = let z : p - p ≡ 0 = omega arith in rw z at (held-var p p v n (omega arith) k l r)
+  leb-behind : (n : ℕ) → leb (length s) (k + n) ≡ leb (length (drop k s)) n
+  leb-behind n = go (leb (length s) (k + n)) refl
+    where
+      go : (t : Bool) → leb (length s) (k + n) ≡ t → leb (length s) (k + n) ≡ leb (length (drop k s)) n
+      go true e = e ∙ sym (over n (leb-true _ _ e))
+      go false e = e ∙ sym (within n (leb-false _ _ e))
 
-  -- from the range on whose block stands at p, with n rounds after it
-  reading-from : (n k p largest block mid : ℕ) → n ≤ k → p ≤ e → e - p ≤ 65527 → largest < 2 ^ 62 → varAt s p ≡ got block mid → block ≤ largest
-      → rounds s n mid (largest - block) ≡ ok e
-      → reading (suc (suc k)) (held p) largest ≡ one (largest - block) largest ∷ (map range (roundRanges s n mid (largest - block)) ++ (end ∷ []))
-  unfolding rounds roundRanges
-  reading-from zero k p largest block mid h a short small r enough o =
-      let stop : mid ≡ e = cc in
-      let i = var-inside s p block mid r in
-      let few : length (held p) ≤ 65527 = rw (held-length p a) short in
-      let begun : 0 < length (held p) = rw (held-length p a) (omega arith) in
-      let last : length (held p) ≤ mid - p = rw (held-length p a) (omega arith) in
-      let none : length (drop (mid - p) (held p)) ≤ 0 = rw length-drop (omega arith) in
-      let f = held-first p block mid a (omega arith) r in
-      read-on (suc k) (held p) largest _ _ _ (at-last (held p) 0 largest few small block (mid - p) f enough begun last)
-      ∙ ap (λ (l : List Step). one (largest - block) largest ∷ l)
-      (read-end k (drop (mid - p) (held p)) largest _ _ (at-end (drop (mid - p) (held p)) 0 largest (omega arith) small none))
-  reading-from (suc n) zero p largest block mid h a short small r enough o = absurd (omega arith)
-  reading-from (suc n) (suc k) p largest block mid h a short small r enough o =
-      let low : ℕ = largest - block in
-      let g = then-ok (varAt s mid) 10 _ _ o in
-      let gap : ℕ = g .value in
-      let q : ℕ = g .next in
-      let above = if-ok low (gap + 2) 12 _ _ (g .more) in
-      let b = then-ok (varAt s q) 10 _ _ (above .1) in
-      let left = if-ok (low - (gap + 2)) (b .value) 12 _ _ (b .more) in
-      let i = var-inside s p block mid r in
-      let j = var-inside s mid gap q (g .read) in
-      let m = var-inside s q (b .value) (b .next) (b .read) in
-      let z : Inside s (b .next) (ok e) = rw (left .1) at (rounds-inside s (b .next) n (b .next) (low - (gap + 2) - b .value) (omega arith) (m .1)) in
-      let few : length (held p) ≤ 65527 = rw (held-length p a) short in
-      let begun : 0 < length (held p) = rw (held-length p a) (omega arith) in
-      let on : mid - p < length (held p) = rw (held-length p a) (omega arith) in
-      let more : q - p < length (held p) = rw (held-length p a) (omega arith) in
-      let f = held-first p block mid a (omega arith) r in
-      let t = held-var p mid gap q (omega arith) a (omega arith) (g .read) in
-      let ih = reading-from n k q (low - (gap + 2)) (b .value) (b .next) (omega arith) (omega arith) (omega arith) (omega arith) (b .read) (left .0) (left .1) in
-      read-on (suc (suc k)) (held p) largest _ _ _ (at-more (held p) 0 largest few small block (mid - p) f enough begun gap (q - p) t (above .0) on more)
-      ∙ ap (λ (l : List Step). one low largest ∷ l)
-      (ap (λ (d : List ℕ). reading (suc (suc k)) d (low - (gap + 2))) (held-drop p q (omega arith) (omega arith)) ∙ ih
-      ∙ ap (λ (rs : List Range). map range rs ++ (end ∷ [])) (sym (round-range s n mid low gap q (b .value) (b .next) (g .read) (b .read))))
+  module _ (short : length s ≤ 65527) where
+    few : length (drop k s) ≤ 65527
+    few = rw size (omega arith)
+
+    step-behind : (i largest : ℕ) → ackStep s (k + i) largest ≡ later k (ackStep (drop k s) i largest)
+    unfolding ackStep refuse
+    step-behind i largest =
+        if-later k _ _ _ _ _ _ (le-ltb _ _ short ∙ sym (le-ltb _ _ few)) refl
+        (if-later k _ _ _ _ _ _ refl refl
+        (if-later k _ _ _ _ _ _ (leb-behind i) refl
+        (then-later k _ _ _ _ _ _ (var-behind s k i) refl (λ block mid.
+        if-later k _ _ _ _ _ _ refl refl
+        (if-later k _ _ _ _ _ _ (leb-behind mid) refl
+        (then-later k _ _ _ _ _ _ (var-behind s k mid) refl (λ gap next.
+        if-later k _ _ _ _ _ _ refl refl
+        (if-later k _ _ _ _ _ _ (leb-behind next) refl refl))))))))
+
+-- ---- and so all of them
+
+pub reading-steps : (n : ℕ) (s : List ℕ) (k largest : ℕ) → length s ≤ 65527 → reading n (drop k s) largest ≡ stepping n s k largest
+unfolding reading stepping
+reading-steps zero s k largest short = refl
+reading-steps (suc n) s k largest short =
+    let t : Taken = ackStep (drop k s) 0 largest in
+    let e : ackStep s k largest ≡ later k t = rw add-zero at (step-behind s k short 0 largest) in
+    let d : drop (t .next) (drop k s) ≡ drop (k + t .next) s = drop-drop (t .next) k s in
+    let ih = reading-steps n s (k + t .next) (t .largest) short in
+    rw e (ap (goOn (t .step)) (ap (λ (l : List ℕ). reading n l (t .largest)) d ∙ ih))
 
 -- the scan of n rounds ended at e: any number of steps past n over the part that it took says its ranges, and then the end
 pub scan-ranges : (s : List ℕ) (at largest n e k : ℕ) → largest < 2 ^ 62 → scanAt s at largest n ≡ ok e → e - at ≤ 65527 → n ≤ k
     → reading (suc (suc k)) (partOf s (record { start = at; len = e - at })) largest ≡ map range (rangesAt s at largest n) ++ (end ∷ [])
-unfolding scanAt
 scan-ranges s at largest n e k small o short h =
-    let f = then-ok (varAt s at) 10 _ _ o in
-    let enough = if-ok largest (f .value) 12 _ _ (f .more) in
     let i : Inside s at (ok e) = rw o at (scan-inside s at largest n) in
-    let r = reading-from s e (i .1) n k at largest (f .value) (f .next) h (i .0) short small (f .read) (enough .0) (enough .1) in
-    let all : take (e - at) (drop at s) ≡ partOf s (record { start = at; len = e - at }) = part-in s _ (e - at) refl (omega arith) in
-    ap (λ (l : List ℕ). reading (suc (suc k)) l largest) (sym all) ∙ r
-    ∙ ap (λ (rs : List Range). map range rs ++ (end ∷ [])) (sym (first-range s at largest n (f .value) (f .next) (f .read)))
+    let all = part-in s (record { start = at; len = e - at }) (e - at) refl (omega arith) in
+    let few : length (partOf s (record { start = at; len = e - at })) ≤ 65527 = rw (← all, part-length s at (e - at) (omega arith)) short in
+    reading-steps (suc (suc k)) (partOf s (record { start = at; len = e - at })) 0 largest few ∙ stepped.scan-ranges s at largest n e k small o short h
+
+-- ---- `stepAfter` is what stands at that place of all that the reader says
+
+first-said : (x : Step) (more : List Step) → getD (goOn x more) 0 end ≡ x
+unfolding goOn
+first-said (range r) more = refl
+first-said end more = refl
+first-said (refused k) more = refl
+
+later-said : (x : Step) (more : List Step) (n : ℕ) → suc n < length (goOn x more) → (n < length more) × (getD (goOn x more) (suc n) end ≡ getD more n end)
+unfolding goOn
+later-said (range r) more n h = (omega arith, refl)
+later-said end more n h = absurd (omega arith)
+later-said (refused k) more n h = absurd (omega arith)
+
+pub nth-reading : (m n : ℕ) (s : List ℕ) (largest : ℕ) → n < length (reading m s largest) → getD (reading m s largest) n end ≡ stepAfter n s largest
+unfolding reading stepAfter
+nth-reading zero n s largest h = absurd (omega arith)
+nth-reading (suc m) zero s largest h = first-said (ackStep s 0 largest .step) _
+nth-reading (suc m) (suc n) s largest h = let a = later-said (ackStep s 0 largest .step) _ n h in a .1 ∙ nth-reading m n _ _ (a .0)
+
+-- so a reader over what the scan took says the scan's ranges in their order, and then the end
+pub scan-nth : (s : List ℕ) (at largest n e i : ℕ) → largest < 2 ^ 62 → scanAt s at largest n ≡ ok e → e - at ≤ 65527 → i < length (map range (rangesAt s at largest n) ++ (end ∷ []))
+    → stepAfter i (partOf s (record { start = at; len = e - at })) largest ≡ getD (map range (rangesAt s at largest n) ++ (end ∷ [])) i end
+scan-nth s at largest n e i small o short h =
+    let all = scan-ranges s at largest n e n small o short (omega arith) in
+    sym (nth-reading (suc (suc n)) i (partOf s (record { start = at; len = e - at })) largest (rw all h)) ∙ ap (λ (l : List Step). getD l i end) all

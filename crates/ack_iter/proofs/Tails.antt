@@ -1,4 +1,4 @@
--- A part up to the end, and one that starts past it. Assumes nothing.
+-- A part up to the end, and one that starts past it.
 use mathlib.Core.Path.{_≡_, sym, _∙_}
 use mathlib.Core.List.{List}
 use Prim.Native.Nat.{ℕ, _-_, _≤_}

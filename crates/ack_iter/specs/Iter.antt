@@ -21,3 +21,10 @@ reading zero s largest = []
 reading (suc n) s largest =
     let t = ackStep s 0 largest in
     goOn (t .step) (reading n (drop (t .next) s) (t .largest))
+
+-- what a reader says after n other steps
+unfoldable pub stepAfter : ℕ → List ℕ → ℕ → Step
+stepAfter zero s largest = ackStep s 0 largest .step
+stepAfter (suc n) s largest =
+    let t = ackStep s 0 largest in
+    stepAfter n (drop (t .next) s) (t .largest)

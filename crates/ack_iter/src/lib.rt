@@ -1,12 +1,13 @@
 // The reader of an ACK frame's ranges (frame.rs, AckIter): it holds the largest number of the range to come and the bytes of the
-// blocks. Its two functions are proved by hand; the work is in `step` and `rest_of`, which need none.
+// blocks. Its two functions, and `nth_range`, which steps a reader for callers with plain values, are proved by hand; the work is
+// in `step` and `rest_of`, which need none.
 use ack::AckStep;
 use ack::AckTaken;
 use shared::FullNumber;
 ghost use mathlib.Core.Path.{_≡_};
 ghost use Rattle.ack.specs.Said.{stepOf, takenOf};
 ghost use Rattle.ack.specs.Step.{ackStep};
-ghost use Rattle.ack_iter.specs.Iter.{taken, Rest};
+ghost use Rattle.ack_iter.specs.Iter.{taken, Rest, stepAfter};
 
 pub struct AckIter<'a> {
     largest: FullNumber,
@@ -52,4 +53,17 @@ impl<'a> AckIter<'a> {
         self.data = rest_of(data, t.next);
         t.answer
     }
+}
+
+// What a reader of these blocks says after n other steps (Iterator::nth): one reader, stepped n times and once more.
+pub fn nth_range(largest: FullNumber, blocks: &[u8], n: usize) -> AckStep
+    ensures { λ r. ⌜ stepOf r ≡ stepAfter n (now (blocks .entry)) (largest .0) ⌝ }
+{
+    let mut it = AckIter::new(largest, blocks);
+    let mut left = n;
+    while 0 < left {
+        it.next();
+        left = left - 1;
+    }
+    it.next()
 }

@@ -1,3 +1,4 @@
--- `One` has what the walk of `add_assign` knows of `more`; `Onces` that there is only one answer.
-pub mod One
+-- `Count` has what the walk of `add_assign` knows of `more`, `Inverse` that what an answer says settles it, `Onces` that each public function has only one answer.
+pub mod Count
+pub mod Inverse
 pub mod Onces

@@ -6,6 +6,10 @@ use lib.Dec.{ltb, eqb}
 use Rattle.coding.specs.Words.{if_then_else_, Answer, no, ok}
 use Rattle.ecn.specs.declared.EcnCounts.{EcnCounts}
 
+-- the counts before any mark was seen
+abbrev pub zeroCounts : EcnCounts
+zeroCounts = record { ect0 = 0; ect1 = 0; ce = 0 }
+
 -- one count: what is said of it, and what it is afterwards
 unfoldable pub saidOf : ℕ → Answer Unit
 saidOf n = if ltb n (2 ^ 62 - 1) then ok tt else no 14

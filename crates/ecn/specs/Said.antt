@@ -6,12 +6,12 @@ use Rattle.coding.specs.Refusals.{numberOf}
 use Rattle.coding.specs.declared.refusal.Refusal.the-variants as ref
 use Rattle.ecn.specs.declared.Raise.{Raise}
 use Rattle.ecn.specs.declared.Raise.the-variants.{Done, Refused}
-use Rattle.ecn.specs.declared.Raised.{Raised}
+use Rattle.ecn.specs.declared.Counted.{Counted}
 
 unfoldable pub raiseOf : Raise → Answer Unit
 raiseOf Done = ok tt
 raiseOf (Refused why) = no (numberOf why)
 
 -- the private step
-unfoldable pub moreOf : ℕ → Raised
+unfoldable pub moreOf : ℕ → Counted
 moreOf n = if ltb n (2 ^ 62 - 1) then (record { count = n + 1; answer = Done }) else (record { count = n; answer = Refused ref.Argument })

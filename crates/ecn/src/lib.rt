@@ -1,9 +1,10 @@
-// ECN counts, each raised by one where it stands (frame.rs, EcnCounts and its add_assign).
+// ECN counts, each raised by one where it stands (frame.rs, EcnCounts and its add_assign). A function that lends the counts is
+// proved by hand; `raised` does it for callers with plain values, which need no such proof.
 use coding::Refusal;
 use shared::EcnCodepoint;
 ghost use mathlib.Core.Path.{_≡_};
 ghost use Rattle.shared.specs.Said.{ecnOf};
-ghost use Rattle.ecn.specs.Counts.{countsAfter, saidAfter};
+ghost use Rattle.ecn.specs.Counts.{zeroCounts, countsAfter, saidAfter};
 ghost use Rattle.ecn.specs.Said.{moreOf, raiseOf};
 
 pub struct EcnCounts {
@@ -12,12 +13,6 @@ pub struct EcnCounts {
     pub ce: u64,
 }
 
-pub const ZERO: EcnCounts = EcnCounts {
-    ect0: 0,
-    ect1: 0,
-    ce: 0,
-};
-
 // Whether a count was raised.
 pub enum Raise {
     Done,
@@ -25,22 +20,22 @@ pub enum Raise {
 }
 
 // A count, and whether it was raised.
-struct Raised {
+struct Counted {
     count: u64,
     answer: Raise,
 }
 
 // A count raised by one, or as it was with the refusal.
-fn more(n: u64) -> Raised
+fn more(n: u64) -> Counted
     ensures { λ r. ⌜ r ≡ moreOf n ⌝ }
 {
     if n < 0x3fff_ffff_ffff_ffff {
-        Raised {
+        Counted {
             count: n + 1,
             answer: Raise::Done,
         }
     } else {
-        Raised {
+        Counted {
             count: n,
             answer: Raise::Refused(Refusal::Argument),
         }
@@ -48,6 +43,19 @@ fn more(n: u64) -> Raised
 }
 
 impl EcnCounts {
+    pub const ZERO: EcnCounts = EcnCounts {
+        ect0: 0,
+        ect1: 0,
+        ce: 0,
+    };
+
+    // The counts before any mark was seen: `ZERO`, with what it is said in a contract.
+    pub fn zero() -> EcnCounts
+        ensures { λ r. ⌜ r ≡ zeroCounts ⌝ }
+    {
+        EcnCounts::ZERO
+    }
+
     // One count is raised where it stands, and the other two stay; a refusal changes nothing.
     pub fn add_assign(&mut self, rhs: EcnCodepoint) -> Raise
         ensures { λ r. ⌜ (now (self .exit) ≡ countsAfter (now (self .entry)) (ecnOf rhs)) × (raiseOf r ≡ saidAfter (now (self .entry)) (ecnOf rhs)) ⌝ }
@@ -70,4 +78,19 @@ impl EcnCounts {
             }
         }
     }
+}
+
+// The counts afterwards, and whether one was raised.
+pub struct After {
+    pub counts: EcnCounts,
+    pub answer: Raise,
+}
+
+// The count of a codepoint raised where it stands.
+pub fn raised(counts: EcnCounts, rhs: EcnCodepoint) -> After
+    ensures { λ r. ⌜ (r .counts ≡ countsAfter counts (ecnOf rhs)) × (raiseOf (r .answer) ≡ saidAfter counts (ecnOf rhs)) ⌝ }
+{
+    let mut c = counts;
+    let answer = c.add_assign(rhs);
+    After { counts: c, answer }
 }

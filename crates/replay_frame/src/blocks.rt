@@ -69,16 +69,6 @@ fn left(len: usize, from: usize) -> usize {
     if from < len { len - from } else { 0 }
 }
 
-fn rest(b: &[u8], from: usize) -> &[u8] {
-    part(
-        b,
-        Place {
-            start: from,
-            len: left(b.len(), from),
-        },
-    )
-}
-
 // A step, and how the reader stands after it: its largest, and the bytes that are left.
 fn stepped(answer: AckStep, largest: FullNumber, bytes: usize, out: &mut [u8], at: usize) -> usize {
     let p = said(answer, out, at);
@@ -86,15 +76,15 @@ fn stepped(answer: AckStep, largest: FullNumber, bytes: usize, out: &mut [u8], a
     put_slice(out, p, b";")
 }
 
-// Each step until the bytes end or one is refused. What it says is asked of AckIter over the bytes that are left, how the
-// reader then stands of the step that it is made of.
+// Each step until the bytes end or one is refused. What the n-th says is asked of one AckIter that has made the n before it, how
+// the reader then stands of the step that it is made of.
 pub(crate) fn ackiter(largest: u64, b: &[u8], out: &mut [u8], at: usize) -> usize {
     let mut p = at;
     let mut from = 0;
     let mut top = FullNumber(largest);
     let mut turns = 0;
     while turns <= b.len() {
-        let answer = held::first_range(top, rest(b, from));
+        let answer = ack_iter::nth_range(FullNumber(largest), b, turns);
         let t = ack::ack_step(b, from, top);
         p = stepped(answer, t.largest, left(b.len(), t.next), out, p);
         p = crate::spill(out, p);
@@ -137,7 +127,7 @@ fn raise(before: EcnCounts, bits: u64) -> Raised {
             counts: before,
         };
     };
-    let r = held::raised(before, point);
+    let r = ecn::raised(before, point);
     let answer = r.answer;
     let counts = r.counts;
     Raised {

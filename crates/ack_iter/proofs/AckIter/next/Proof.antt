@@ -1,6 +1,5 @@
 -- `AckIter::next` meets its contract: a walk of its MIR, by hand. The borrow of the reader is opened, its number and its slice are copied out and passed to `step`; the number that it returns is stored; the slice is passed to `rest_of`, and the part that it returns is stored; the borrow is closed at the reader of the two.
 -- A `&[u8]` is Copy, so what the slice owns is had twice, once for each call; what the part owns takes its place in the reader. All that the proof knows of the two callees is that each meets its contract.
--- Assumes nothing.
 use mathlib.Core.Path.{_≡_, refl, ap, subst}
 use Prim.Native.Nat.{ℕ, _<_, _^_}
 use mathlib.Core.List.{[], _∷_, List}

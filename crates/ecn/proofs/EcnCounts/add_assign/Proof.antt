@@ -1,6 +1,5 @@
 -- `ecn::EcnCounts::add_assign` meets its contract: a walk of its MIR, by hand. The borrow is opened; the `match` goes by cases on the mark, and in each arm one count is passed to `more` and what it returns is stored; the borrow is closed at the counts with that one changed.
 -- All that the proof knows of `more` is that it meets its contract. All that is held is plain data, so what a value owns is never carried: `owned` makes it anew.
--- Assumes nothing.
 use mathlib.Core.Path.{_≡_, refl, ap, subst}
 use Prim.Native.Nat.{ℕ, zero, suc, _<_, _^_}
 use mathlib.Core.List.{[], _∷_, List}
@@ -45,11 +44,11 @@ use denote.Exit.{yes}
 use Rattle.shared.specs.Said.{ecnOf}
 use Rattle.ecn.specs.Counts.{countsAfter, saidAfter}
 use Rattle.ecn.specs.Said.{moreOf, raiseOf}
-use Rattle.ecn.proofs.One.{more-count, more-said}
+use Rattle.ecn.proofs.Count.{more-count, more-said}
 use Rattle.ecn.specs.declared.EcnCounts.{EcnCounts}
 use Rattle.shared.specs.declared.codepoint.EcnCodepoint.{EcnCodepoint}
 use Rattle.shared.specs.declared.codepoint.EcnCodepoint.the-variants.{Ect0, Ect1, Ce}
-use Rattle.ecn.specs.declared.Raised.{Raised}
+use Rattle.ecn.specs.declared.Counted.{Counted}
 use Rattle.ecn.specs.declared.Raise.{Raise}
 use Rattle.ecn.proofs.EcnCounts as T
 use Rattle.ecn.proofs.EcnCounts.Laws as T′
@@ -57,8 +56,8 @@ use Rattle.shared.proofs.codepoint.EcnCodepoint as P
 use Rattle.shared.proofs.codepoint.EcnCodepoint.Laws as P′
 use Rattle.ecn.proofs.Raise as N
 use Rattle.ecn.proofs.Raise.Laws as N′
-use Rattle.ecn.proofs.Raised as S
-use Rattle.ecn.proofs.Raised.Laws as S′
+use Rattle.ecn.proofs.Counted as S
+use Rattle.ecn.proofs.Counted.Laws as S′
 use Rattle.ecn.proofs.more as more
 use Rattle.ecn.proofs.more.Symbol as more-def
 use Rattle.ecn.proofs.more.Symbol.{name as #ecn·more}
@@ -96,16 +95,16 @@ inArm k return = skip
 inArm k (call f xs p) = skip
 
 -- what whoever holds what `more` returned knows of its fields
-abbrev sv : Raised → List Val
+abbrev sv : Counted → List Val
 sv = LL.vals S.the-type S′.the-laws
 
-spelled : (r : Raised) {v : Val} → Is S.the-row r (v ∷ []) → Is S.the-row r (sv r)
+spelled : (r : Counted) {v : Val} → Is S.the-row r (v ∷ []) → Is S.the-row r (sv r)
 spelled r is = subst (Is S.the-row r) (LL.tells S.the-type S′.the-laws r _ is) is
 
-its-count : (r : Raised) → Is S.the-row r (sv r) → r .count < 2 ^ 64
+its-count : (r : Counted) → Is S.the-row r (sv r) → r .count < 2 ^ 64
 its-count r is = LL.owed S.the-type S′.the-laws r _ is .0 .1
 
-its-answer : (r : Raised) → Is S.the-row r (sv r) → Is N.the-row (r .answer) (EL.vals N.the-type N′.the-laws (r .answer))
+its-answer : (r : Counted) → Is S.the-row r (sv r) → Is N.the-row (r .answer) (EL.vals N.the-type N′.the-laws (r .answer))
 its-answer r is = LL.owed S.the-type S′.the-laws r _ is .1 .0
 
 abbrev hv : EcnCounts → List Val
@@ -154,12 +153,12 @@ module _ {M : Type 1} (𝓤 : URA M) (H : Heap 𝓤) (A : Atoms 𝓤) (W : Given
   asked : (n : ℕ) → ent 𝓤 (sep 𝓤 (sem 𝓤 H A ftrue) (sem 𝓤 H A (owns (u64 ∷ []) (n, tt) (vint w64 n ∷ [], tt)))) (More 𝓤 H A at-mem run .pre (to n))
   asked n = qed W (‵ ftrue ∷ ‵ (owns (u64 ∷ []) (n, tt) (vint w64 n ∷ [], tt)) ∷ []) ∵ join ! $ frame ! $ done !
 
-  said : (n : ℕ) (r : Raised) → ent 𝓤 (ensured 𝓤 H A more.ended (more.clauses 𝓤 H A at-mem run) tt (n, tt) tt r) (fact 𝓤 (r ≡ moreOf n))
+  said : (n : ℕ) (r : Counted) → ent 𝓤 (ensured 𝓤 H A more.ended (more.clauses 𝓤 H A at-mem run) tt (n, tt) tt r) (fact 𝓤 (r ≡ moreOf n))
   said n r = exE 𝓤 _ (λ ws. snd∗ 𝓤 (sem 𝓤 H A (lasts more.ended tt (n, tt) ws)) (fact 𝓤 (r ≡ moreOf n)))
 
-  got : {Γ : List (Item 𝓤)} {G : Kit.Goal 𝓤 H} → Kit.Soaks G → (n : ℕ) (v : Val) → ((r : Raised) → r ≡ moreOf n → Is S.the-row r (v ∷ []) → Sq W Γ G) → Sq W (raw (More 𝓤 H A at-mem run .post (to n) v) ∷ Γ) G
+  got : {Γ : List (Item 𝓤)} {G : Kit.Goal 𝓤 H} → Kit.Soaks G → (n : ℕ) (v : Val) → ((r : Counted) → r ≡ moreOf n → Is S.the-row r (v ∷ []) → Sq W Γ G) → Sq W (raw (More 𝓤 H A at-mem run .post (to n) v) ∷ Γ) G
   got soaks n v go =
-      use1 W (later (some (λ (r : Raised). (‵ ftrue ⊛ ‵ (S.the-row .own r (v ∷ []))) ⊛ raw (ensured 𝓤 H A more.ended (more.clauses 𝓤 H A at-mem run) tt (n, tt) tt r)))) (id⊢ 𝓤 _) $ await ! soaks $ pick ! (λ r.
+      use1 W (later (some (λ (r : Counted). (‵ ftrue ⊛ ‵ (S.the-row .own r (v ∷ []))) ⊛ raw (ensured 𝓤 H A more.ended (more.clauses 𝓤 H A at-mem run) tt (n, tt) tt r)))) (id⊢ 𝓤 _) $ await ! soaks $ pick ! (λ r.
       split ! $ move ! (1 ∷ []) $ use1 W (raw (fact 𝓤 (r ≡ moreOf n))) (said n r) $ heard ! (r ≡ moreOf n) (λ e. split ! $ drop ! $
       peeks ! S.the-row (Is S.the-row) (shows 𝓤 H A S.the-row) r (v ∷ []) (λ is₀. drop ! $ go r e is₀)))
 

@@ -1,1 +1,0 @@
--- The contracts cite the definitions of ack and ecn.
