@@ -1,5 +1,6 @@
 -- In the order in which they rest on each other.
 pub mod Windows
+pub mod Firsts
 pub mod Cuts
 pub mod Readings
 pub mod Calls

@@ -1,14 +1,15 @@
--- The bytes of a number that starts a longer one. Assumes nothing.
-use Prim.Native.Nat.{ℕ, suc, _+_, _-_, _*_, _/_, _^_, _<_, _≤_}
-use mathlib.Core.Path.{_≡_, refl, ap, _∙_}
+-- The number that the first bytes of a longer one make.
+use Prim.Native.Nat.{ℕ, zero, suc, _+_, _-_, _*_, _/_, _%_, _^_, _<_, _≤_}
+use mathlib.Core.Path.{_≡_, refl, sym, ap, _∙_}
 use mathlib.Core.List.{List, [], _∷_, _++_}
-use native.Mathlib.Nat.{pow-succ'}
+use native.Mathlib.Nat.{pow-succ', mod-eq-of-lt}
 use native.Mathlib.Omega.{arith}
 use lib.Arith.{digits-div}
 use lib.ListN.{length, take, drop, length-take, length-drop}
-use lib.Seq.{take-add}
-use Rattle.coding.specs.Bytes.{be}
-use Rattle.coding.proofs.Laws.{Octets, octets-take, octets-drop, be-below}
+use lib.Seq.{take-add, take-all}
+use Rattle.coding.specs.Bytes.{be, bytesBE}
+use Rattle.coding.proofs.Laws.{Octets, octets-take, octets-drop, be-below, length-bytesBE}
+use Rattle.coding.proofs.Back.{be-bytes}
 
 be-append : (v : ℕ) (bs cs : List ℕ) → be v (bs ++ cs) ≡ be (be v bs) cs
 unfolding be
@@ -35,3 +36,17 @@ be-first l n k o h j =
     let c : be 0 t < 256 ^ (n - k) = rw len at b′ in
     let v : be 0 (take n l) ≡ be 0 (take k l) * 256 ^ (n - k) + be 0 t = ap (be 0) s ∙ be-append 0 (take k l) t ∙ be-from (be 0 (take k l)) t ∙ rw len in
     rw v (digits-div (be 0 (take k l)) c)
+
+octets-bytes : (n x : ℕ) → Octets (bytesBE n x)
+unfolding bytesBE
+octets-bytes zero x i = omega arith
+octets-bytes (suc n) x zero = omega arith
+octets-bytes (suc n) x (suc i) = octets-bytes n x i
+
+-- and so of the n bytes of x
+pub be-shorter : (n k x : ℕ) → k ≤ n → x < 256 ^ n → be 0 (take k (bytesBE n x)) ≡ x / 256 ^ (n - k)
+be-shorter n k x h j =
+    let len = length-bytesBE n x in
+    let m : x % 256 ^ n ≡ x = mod-eq-of-lt j in
+    let v : be 0 (take n (bytesBE n x)) ≡ x = ap (be 0) (take-all n (bytesBE n x) (omega (arith, len))) ∙ be-bytes n 0 x ∙ rw m (omega arith) in
+    sym (be-first (bytesBE n x) n k (octets-bytes n x) h (omega (arith, len))) ∙ ap (λ (y : ℕ). y / 256 ^ (n - k)) v
