@@ -1,4 +1,4 @@
--- What the sender masks the receiver unmasks, and no other byte changes. Assumes nothing.
+-- What the sender masks the receiver unmasks, and no other byte changes.
 use Prim.Native.Nat.{ℕ, zero, suc, _+_, _-_, _/_, _<_, _≤_}
 use mathlib.Core.Path.{_≡_, refl, ap, ap₂, _∙_}
 use mathlib.Core.List.{List, [], _∷_}
@@ -10,8 +10,9 @@ use lib.Bits.{bitXor, xor-shr, xor-zero-r}
 use lib.ListN.{length, take, drop, getD, length-take}
 use borrow.Author.Tests.{le-leb}
 use Rattle.coding.specs.Words.{if_then_else_, ok}
-use Rattle.coding.specs.Bytes.{byteAt, be}
-use Rattle.protect.specs.Protection.{xor, xorAt, numberLen, numberMask, firstMask, masked, applied, removed}
+use Rattle.coding.specs.Bytes.{byteAt}
+use Rattle.number.specs.Cutting.{tagLength, firstCut}
+use Rattle.protect.specs.Protection.{xor, xorAt, numberMask, firstMask, masked, applied, removed}
 use Rattle.protect.specs.Tests.{hasSample, formBit, headerTests}
 use Rattle.protect.specs.Steps.{openedBy, opened, finishAt, finished, maskAt, readOff}
 use Rattle.protect.proofs.Xor.{xor-twice, xor-back, xor-past}
@@ -90,7 +91,7 @@ module _ (long : Bool) (mask : List ℕ) (at : ℕ) (packet : List ℕ) (h : 1 �
   removed-applied =
       let m : ℕ = firstMask long (byteAt mask 0) in
       let b : bitXor (byteAt (applied long mask at packet) 0) m ≡ byteAt packet 0 = ap (λ (x : ℕ). bitXor x m) applied-first ∙ xor-twice (byteAt packet 0) m in
-      ap (λ (x : ℕ). masked long mask at (numberLen x) (applied long mask at packet)) b ∙ masked-back long mask at (numberLen (byteAt packet 0)) packet h k
+      ap (λ (x : ℕ). masked long mask at (tagLength x) (applied long mask at packet)) b ∙ masked-back long mask at (tagLength (byteAt packet 0)) packet h k
 
   pub applied-form : byteAt (applied long mask at packet) 0 / 0x80 ≡ byteAt packet 0 / 0x80
   applied-form = ap (λ (x : ℕ). x / 0x80) applied-first ∙ form-kept long (byteAt packet 0) (byteAt mask 0)
@@ -124,7 +125,7 @@ there-and-back headerLen k hasLength packet mask t h f =
     record { sent = applied hasLength mask at packet; masks = mask-ok headerLen k hasLength packet mask t s f; finishes = fin; says = rw fin }
 
 -- the number that finish then answers is the one that was written, where the first byte has its length
-pub number-back : (hasLength : Bool) (at k : ℕ) (packet : List ℕ) → numberLen (byteAt packet 0) ≡ k
-    → opened hasLength at packet ≡ openedBy hasLength (byteAt packet 0) (be 0 (take k (drop at packet)))
+pub number-back : (hasLength : Bool) (at k : ℕ) (packet : List ℕ) → tagLength (byteAt packet 0) ≡ k
+    → opened hasLength at packet ≡ openedBy hasLength (byteAt packet 0) (firstCut k (drop at packet))
 unfolding opened
-number-back hasLength at k packet e = ap (λ (j : ℕ). openedBy hasLength (byteAt packet 0) (be 0 (take j (drop at packet)))) e
+number-back hasLength at k packet e = ap (λ (j : ℕ). openedBy hasLength (byteAt packet 0) (firstCut j (drop at packet))) e

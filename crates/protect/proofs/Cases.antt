@@ -1,4 +1,4 @@
--- The cases of the sample's place, finish and the mask step, each from the tests that lead to it. Assumes nothing.
+-- The cases of the sample's place, finish and the mask step, each from the tests that lead to it.
 use Prim.Native.Nat.{ℕ, zero, suc, _+_, _-_, _/_, _%_, _^_, _<_, _≤_}
 use mathlib.Core.Path.{_≡_, refl, sym, ap, _∙_}
 use mathlib.Core.List.{List, [], _∷_}
@@ -11,21 +11,28 @@ use lib.Dec.{leb, eqb}
 use lib.ListN.{length, take, drop, set, length-drop, length-set}
 use borrow.Author.Tests.{lt-ltb, le-ltb, le-leb, eq-eqb, ne-eqb, leb-true, not-true, not-false}
 use Rattle.coding.specs.Words.{if_then_else_, cut, got, andThen, Answer, no, ok}
-use Rattle.coding.specs.Bytes.{byteAt, be}
+use Rattle.coding.specs.Bytes.{byteAt, be, bytesBE}
 use Rattle.coding.specs.Reading.{fixedAt}
+use Rattle.coding.specs.Refusals.{numberOf}
+use Rattle.coding.specs.declared.refusal.Refusal.{Refusal}
 use Rattle.coding.specs.Said.{u32Of}
 use Rattle.coding.specs.declared.U32Read.{U32Read}
 use Rattle.coding.specs.declared.U32Read.the-variants as u32
 use Rattle.coding.proofs.Laws.{Octets, octets-drop, whole, fixed-some}
 use Rattle.shared.specs.declared.kinds.CutNumber.{CutNumber}
-use Rattle.protect.specs.Protection.{xor, xorAt, numberLen, firstMask, numberMask, masked, applied, removed}
+use Rattle.number.specs.Cutting.{tagLength, firstCut, cutRead}
+use Rattle.number.specs.Said.{madeOf}
+use Rattle.number.specs.declared.CutMade.{CutMade}
+use Rattle.number.specs.declared.CutMade.the-variants as made
+use Rattle.number.proofs.Cuts.{read-some}
+use Rattle.number.proofs.Firsts.{be-again}
+use Rattle.protect.specs.Protection.{xor, xorAt, firstMask, numberMask, masked, applied, removed}
 use Rattle.protect.specs.Tests.{inSize, hasSample, formBit, numberBytes, numberFits, leastHeader, headerTests}
 use Rattle.protect.specs.Steps.{readOff, leftBy, Changed, sampleAt, Opened, unnumbered, openedBy, opened, openAt, Opens}
 use Rattle.protect.specs.Steps.{finishAt, finished, Finishes, protectAt, Protects, maskNumber, maskAt, Masks}
 use Rattle.protect.specs.Said.{finishedOf}
 use Rattle.protect.specs.declared.Finished.the-variants as fin
 use Rattle.protect.proofs.Xor.{length-xorAt}
-use Rattle.protect.proofs.Numbers.{be-first}
 use Rattle.protect.proofs.Parts.{first-stored}
 
 -- ---- a test that a function of its own made, by what the code saw of it
@@ -66,19 +73,31 @@ first-masked long mask (suc at) n (b ∷ l) h k = refl
 
 -- ---- finish
 
--- of four bytes, all
-pub cut-four : (k word : ℕ) → k ≡ 4 → word ≡ word / 256 ^ (4 - k)
-cut-four k word e = rw e (omega arith)
+-- the length that a first byte has is one of the four: its number is never refused
+module _ (r : CutMade) (len first : ℕ) (bs : List ℕ) (el : len ≡ tagLength first) (e : madeOf r ≡ cutRead len bs) where
+  made-is : madeOf r ≡ ok (firstCut (tagLength first) bs)
+  made-is = e ∙ rw el (sym (read-some (tagLength first) bs (omega arith) (omega arith)))
+
+  pub decoded : (number : CutNumber) → r ≡ made.Cut number → number ≡ firstCut (tagLength first) bs
+  unfolding madeOf
+  decoded number q = let s : ok number ≡ ok (firstCut (tagLength first) bs) = rw q at made-is in cc
+
+  pub not-refused : (why : Refusal) → r ≡ made.Refused why → ⊥
+  unfolding madeOf
+  not-refused why q =
+      let s : no (numberOf why) ≡ ok (firstCut (tagLength first) bs) = rw q at made-is in
+      let z : _≡_ {A = ℕ} 0 1 = cc in
+      omega arith
 
 -- what is said of a long and of a short packet
-module _ (number : CutNumber) (first word k : ℕ) (e₀ : number .0 ≡ k) (e₁ : number .1 ≡ word / 256 ^ (4 - k)) (e : k ≡ numberLen first) where
-  pub said-long : finishedOf (fin.Long number (eqb (first / 4 % 4) 0)) ≡ ok (openedBy true first (word / 256 ^ (4 - numberLen first)))
+module _ (first : ℕ) {number n : CutNumber} (e : number ≡ n) where
+  pub said-long : finishedOf (fin.Long number (eqb (first / 4 % 4) 0)) ≡ ok (openedBy true first n)
   unfolding finishedOf openedBy if_then_else_
-  said-long = rw (e₀, e₁, e)
+  said-long = rw e
 
-  pub said-short : finishedOf (fin.Short number (eqb (first / 8 % 4) 0) (eqb (first / 4 % 2) 1)) ≡ ok (openedBy false first (word / 256 ^ (4 - numberLen first)))
+  pub said-short : finishedOf (fin.Short number (eqb (first / 8 % 4) 0) (eqb (first / 4 % 2) 1)) ≡ ok (openedBy false first n)
   unfolding finishedOf openedBy if_then_else_
-  said-short = rw (e₀, e₁, e)
+  said-short = rw e
 
 -- after the mask, four bytes are still there: 9 is never given
 pub not-cut : (packet ms : List ℕ) (at b : ℕ) {new : List ℕ} {r : U32Read} → hasSample (length packet) at ≡ true → new ≡ xorAt at ms (set packet 0 b)
@@ -114,17 +133,17 @@ module _ (long : Bool) (packet : List ℕ) (at : ℕ) (mask : List ℕ) where
         unfolding openAt if_then_else_ fixedAt andThen
         open-ok = rw (ne-eqb at 0 h, k, eq-eqb (byteAt packet 0 / 0x80) (formBit long) f, le-leb (at + 4) (length packet) (omega (arith, reach)))
 
-        module _ (m n : ℕ) (new : List ℕ) (em : m ≡ firstMask long (byteAt mask 0)) (en : n ≡ numberLen (bitXor (byteAt packet 0) m))
+        module _ (m n : ℕ) (new : List ℕ) (em : m ≡ firstMask long (byteAt mask 0)) (en : n ≡ tagLength (bitXor (byteAt packet 0) m))
             (e₀ : new ≡ xorAt at (numberMask n mask) (set packet 0 (bitXor (byteAt packet 0) m))) (r : U32Read) (er : u32Of r ≡ fixedAt 4 new at) where
           e : new ≡ masked long mask at n packet
           e = e₀ ∙ first-stored long mask at n m packet (omega (arith, reach)) em
 
           is-removed : new ≡ removed long mask at packet
           unfolding removed
-          is-removed = e ∙ ap (λ (j : ℕ). masked long mask at j packet) (en ∙ ap (λ (x : ℕ). numberLen (bitXor (byteAt packet 0) x)) em)
+          is-removed = e ∙ ap (λ (j : ℕ). masked long mask at j packet) (en ∙ ap (λ (x : ℕ). tagLength (bitXor (byteAt packet 0) x)) em)
 
           pub open-done : (word next : ℕ) (said : Answer Opened) → Octets new → r ≡ u32.Num word next
-              → said ≡ ok (openedBy long (bitXor (byteAt packet 0) m) (word / 256 ^ (4 - numberLen (bitXor (byteAt packet 0) m))))
+              → said ≡ ok (openedBy long (bitXor (byteAt packet 0) m) (firstCut (tagLength (bitXor (byteAt packet 0) m)) (bytesBE 4 word)))
               → Opens long packet at mask said new
           unfolding u32Of fixedAt opened
           open-done word next said o q s =
@@ -135,8 +154,8 @@ module _ (long : Bool) (packet : List ℕ) (at : ℕ) (mask : List ℕ) where
               ∙ first-masked long mask at n packet (omega (arith, reach)) (omega (arith, reach))
               ∙ ap (bitXor (byteAt packet 0)) (sym em) in
               let four : 4 ≤ length (drop at new) = simp length-drop (omega (arith, w .0)) in
-              let v : be 0 (take 4 (drop at new)) / 256 ^ (4 - numberLen (byteAt new 0)) ≡ be 0 (take (numberLen (byteAt new 0)) (drop at new)) =
-              be-first (drop at new) 4 (numberLen (byteAt new 0)) (octets-drop at new o) (omega arith) four in
+              let v : be 0 (take (tagLength (byteAt new 0)) (bytesBE 4 (be 0 (take 4 (drop at new))))) ≡ be 0 (take (tagLength (byteAt new 0)) (drop at new)) =
+              be-again (drop at new) 4 (tagLength (byteAt new 0)) (octets-drop at new o) (omega arith) four in
               changed-ok (opened long at) packet (open-ok ∙ ap ok (sym is-removed)) (s ∙ rw (← b, ← w .1 .1, v))
 
 -- ---- the header's tests
@@ -236,7 +255,7 @@ module _ (long : Bool) (packet : List ℕ) (at : ℕ) (mask : List ℕ) where
     unfolding protectAt if_then_else_
     protect-ok f = rw (k, eq-eqb (byteAt packet 0 / 0x80) (formBit long) (f ∙ e))
 
-    pub protect-done : {n m : ℕ} {new : List ℕ} → byteAt packet 0 / 0x80 ≡ bit → m ≡ firstMask long (byteAt mask 0) → n ≡ numberLen (byteAt packet 0)
+    pub protect-done : {n m : ℕ} {new : List ℕ} → byteAt packet 0 / 0x80 ≡ bit → m ≡ firstMask long (byteAt mask 0) → n ≡ tagLength (byteAt packet 0)
         → new ≡ xorAt at (numberMask n mask) (set packet 0 (bitXor (byteAt packet 0) m)) → protectAt long packet at mask ≡ ok new
     unfolding applied
     protect-done {n} {m} f em en ep =

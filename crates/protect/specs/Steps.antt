@@ -4,15 +4,17 @@ use mathlib.Core.Path.{_≡_}
 use mathlib.Core.List.{List}
 use mathlib.Core.Bool.{Bool}
 use mathlib.Core.Option.{Option, none, some}
-use lib.ListN.{length, take, drop}
+use lib.ListN.{length, drop}
 use lib.Dec.{eqb}
 use denote.Ref.{RefT, now}
 use Rattle.coding.specs.Words.{if_then_else_, andThen, Answer, no, ok}
-use Rattle.coding.specs.Bytes.{byteAt, be}
+use Rattle.coding.specs.Bytes.{byteAt}
 use Rattle.coding.specs.Reading.{fixedAt}
 use Rattle.coding.specs.Places.{Part, startOf, partOf}
 use Rattle.coding.specs.declared.Place.{Place}
-use Rattle.protect.specs.Protection.{numberLen, applied, removed}
+use Rattle.shared.specs.declared.kinds.CutNumber.{CutNumber}
+use Rattle.number.specs.Cutting.{tagLength, firstCut}
+use Rattle.protect.specs.Protection.{applied, removed}
 use Rattle.protect.specs.Tests.{inSize, hasSample, formBit, numberBytes, headerTests}
 
 -- ---- a call that changes a lent packet: w is the packet afterwards, or a refusal
@@ -49,16 +51,16 @@ pub data Opened : Type 0 where
   long : ℕ → ℕ → Bool → Opened
   short : ℕ → ℕ → Bool → Bool → Opened
 
--- by the first byte without its mask, and the number's value: the reserved bits are 0c in a long header and 18 in a short
--- one, the key phase is 04
-unfoldable pub openedBy : Bool → ℕ → ℕ → Opened
-openedBy isLong first value =
-    if isLong then long (numberLen first) value (eqb (first / 4 % 4) 0)
-    else short (numberLen first) value (eqb (first / 8 % 4) 0) (eqb (first / 4 % 2) 1)
+-- by the first byte without its mask, and the number: the reserved bits are 0c in a long header and 18 in a short one, the
+-- key phase is 04
+unfoldable pub openedBy : Bool → ℕ → CutNumber → Opened
+openedBy isLong first number =
+    if isLong then long (number .0) (number .1) (eqb (first / 4 % 4) 0)
+    else short (number .0) (number .1) (eqb (first / 8 % 4) 0) (eqb (first / 4 % 2) 1)
 
--- the number's bytes in network order, in the packet without its mask
+-- in the packet without its mask
 unfoldable pub opened : Bool → ℕ → List ℕ → Opened
-opened isLong at packet = openedBy isLong (byteAt packet 0) (be 0 (take (numberLen (byteAt packet 0)) (drop at packet)))
+opened isLong at packet = openedBy isLong (byteAt packet 0) (firstCut (tagLength (byteAt packet 0)) (drop at packet))
 
 -- a packet with a number, its mask removed
 unfoldable pub openAt : Bool → List ℕ → ℕ → List ℕ → Answer (List ℕ)
