@@ -1,14 +1,15 @@
 // The header that is to be written, without its connection ids and its token (packet.rs, Header; RFC 9000, 17).
+use number::Tagged;
 use packet::LongHeaderType;
 use packet::LongType;
 use shared::CutNumber;
 ghost use mathlib.Core.Path.{_≡_};
 ghost use mathlib.Core.Bool.{true};
 ghost use Prim.Native.Nat.{_≤_};
-ghost use Rattle.number.specs.Cutting.{isCut};
+ghost use Rattle.number.specs.Cutting.{isCut, lengthBits};
 ghost use Rattle.packet.specs.TypeBits.{bitsOf};
 ghost use Rattle.packet.specs.Said.{longTypeOf};
-ghost use Rattle.packet_out.specs.Encoding.{bit, lowBits, longFirst, shortFirst, numberIn, numberKeeps, longShape, shapeBy};
+ghost use Rattle.packet_out.specs.Encoding.{bitIf, longFirst, shortFirst, plainNumber, numberKeeps, longShape, shapeBy};
 ghost use Rattle.packet_out.specs.Said.{plainOf, cutOf, shapeOf};
 
 pub enum Header {
@@ -57,7 +58,7 @@ pub struct Form {
 
 impl Header {
     pub fn number(self) -> HeaderNumber
-        ensures { λ r. ⌜ cutOf r ≡ numberIn (plainOf self) ⌝ }
+        ensures { λ r. ⌜ cutOf r ≡ plainNumber (plainOf self) ⌝ }
     {
         match self {
             Header::Initial { number, version: _ } => HeaderNumber::Cut(number),
@@ -116,7 +117,7 @@ fn long_first(ty: LongHeaderType) -> u8
 }
 
 fn bit_if(b: bool, x: u8) -> u8
-    ensures { λ r. ⌜ (r ≡ bit b x) × (r ≤ x) ⌝ }
+    ensures { λ r. ⌜ (r ≡ bitIf b x) × (r ≤ x) ⌝ }
 {
     if b { x } else { 0 }
 }
@@ -128,12 +129,15 @@ fn short_first(spin: bool, key_phase: bool) -> u8
     0x40 + bit_if(spin, 0x20) + bit_if(key_phase, 0x04)
 }
 
-// The number's length less one.
+// The two low bits of the first byte: the number's tag.
 fn low_bits(c: CutNumber) -> u8
     requires { ⌜ isCut c ≡ true ⌝ }
-    ensures { λ r. ⌜ (r ≡ lowBits c) × (r ≤ 3) ⌝ }
+    ensures { λ r. ⌜ (r ≡ lengthBits c) × (r ≤ 3) ⌝ }
 {
-    (c.0 - 1) as u8
+    let Tagged::Tag(tag) = number::tag(c) else {
+        return 0;
+    };
+    tag
 }
 
 // A long header's form.
@@ -150,7 +154,7 @@ fn long_form(first: u8, version: u32, has_token: bool, has_length: bool) -> Form
 
 // A header's form, by its kind.
 pub(crate) fn form_of(header: Header) -> Form
-    requires { ⌜ numberKeeps (numberIn (plainOf header)) ≡ true ⌝ }
+    requires { ⌜ numberKeeps (plainNumber (plainOf header)) ≡ true ⌝ }
     ensures { λ r. ⌜ shapeOf r ≡ shapeBy bitsOf (plainOf header) ⌝ }
 {
     match header {

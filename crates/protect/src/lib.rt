@@ -16,7 +16,7 @@ ghost use Rattle.number.specs.Cutting.{tagLength, firstCut};
 ghost use Rattle.protect.specs.Protection.{xor, xorAt, firstMask, numberMask};
 ghost use Rattle.protect.specs.Tests.{hasSample, formBit, numberBytes, numberFits, leastHeader, headerTests};
 ghost use Rattle.protect.specs.Steps.{sampleAt, openedBy, Opens, Finishes, PartAt, headerPlace, payloadPlace, Protects, Masks};
-ghost use Rattle.protect.specs.Said.{longOf, numberedOf, numberLenOf, sampleOf, finishedOf, maskedOf};
+ghost use Rattle.protect.specs.Said.{longHeader, numberedOf, numberLenOf, sampleOf, finishedOf, maskedOf};
 
 // The kind of a header.
 pub enum Kind {
@@ -31,7 +31,7 @@ pub enum Kind {
 impl Kind {
     // Whether the header has the long form: 0x80 is set in its first byte.
     pub fn is_long(self) -> bool
-        ensures { λ r. ⌜ r ≡ longOf self ⌝ }
+        ensures { λ r. ⌜ r ≡ longHeader self ⌝ }
     {
         match self {
             Kind::Initial => true,
@@ -204,7 +204,7 @@ fn finish_numbered(long: bool, packet: &mut [u8], number_offset: usize, mask: [u
 
 // Takes the header protection off a packet where it stands, and answers its number.
 pub fn finish(kind: Kind, packet: &mut [u8], number_offset: usize, mask: [u8; 5]) -> Finished
-    ensures { λ r. ⌜ Finishes (numberedOf kind) (longOf kind) (now (packet .entry)) «number_offset» mask (finishedOf r) (now (packet .exit)) ⌝ }
+    ensures { λ r. ⌜ Finishes (numberedOf kind) (longHeader kind) (now (packet .entry)) «number_offset» mask (finishedOf r) (now (packet .exit)) ⌝ }
 {
     if MAX_DATAGRAM < packet.len() {
         return Finished::Refused(Refusal::Argument);
