@@ -14,6 +14,7 @@ use Rattle.coding.specs.Places.{partOf}
 use Rattle.coding.specs.Varint.{varLen, varAt, varTag, varSize, varBytes}
 use Rattle.coding.proofs.Laws.{length-var}
 use Rattle.coding.proofs.Back.{part-back, var-back}
+use Rattle.shared.specs.FirstByte.{fixedBit, spinBit, keyPhaseBit}
 use Rattle.shared.specs.declared.cid.ConnectionId.{ConnectionId}
 use Rattle.shared.specs.declared.kinds.CutNumber.{CutNumber}
 use Rattle.number.specs.Cutting.{lengthBits}
@@ -54,7 +55,7 @@ pub low-small : (c : CutNumber) → numberKeeps (some c) ≡ true → lengthBits
 unfolding numberKeeps
 low-small c e = omega (arith, cut-short c e)
 
-short-steers : (spin phase : Bool) (low : ℕ) → low < 4 → (0x40 + bitIf spin 0x20 + bitIf phase 0x04 + low) / 32 ≡ 2 + bitIf spin 1
+short-steers : (spin phase : Bool) (low : ℕ) → low < 4 → (fixedBit + bitIf spin spinBit + bitIf phase keyPhaseBit + low) / 32 ≡ 2 + bitIf spin 1
 unfolding bitIf if_then_else_
 short-steers true true low h = omega (arith, h)
 short-steers true false low h = omega (arith, h)

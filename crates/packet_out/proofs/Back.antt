@@ -17,6 +17,7 @@ use Rattle.coding.specs.Reading.{fixedAt, takeAt}
 use Rattle.coding.specs.Varint.{varBytes, varSize}
 use Rattle.coding.proofs.Laws.{length-var}
 use Rattle.coding.proofs.Back.{part-back}
+use Rattle.shared.specs.FirstByte.{longHeaderForm, fixedBit}
 use Rattle.shared.specs.Cid.{cidOf, cidOn, cidBytes, longBytes}
 use Rattle.shared.specs.declared.cid.ConnectionId.{ConnectionId}
 use Rattle.shared.proofs.Laws.{length-cid}
@@ -95,7 +96,7 @@ module _ (types : ℕ → PacketType) (dst src : ConnectionId) (to : dst .len �
 
 -- ---- any kind
 
-greased : (b random : ℕ) (grease : Bool) → b ≡ 0x80 + random % 0x80 → (grease ≡ true) ⊎ (random / 0x40 % 2 ≡ 1) → unfixed b grease ≡ false
+greased : (b random : ℕ) (grease : Bool) → b ≡ longHeaderForm + random % longHeaderForm → (grease ≡ true) ⊎ (random / fixedBit % 2 ≡ 1) → unfixed b grease ≡ false
 unfolding unfixed
 greased b random grease e = ⊎-elim (λ g. rw g) (λ h. fixed-set b grease (omega (arith, e, h)))
 
@@ -106,7 +107,7 @@ Steers bits (zeroRtt c v) b = b / 16 ≡ 12 + bits type.zeroRtt
 Steers bits (handshake c v) b = b / 16 ≡ 12 + bits type.handshake
 Steers bits (retry v) b = b / 16 ≡ 12 + bits type.retry
 Steers bits (short spin phase c) b = b / 32 ≡ 2 + bitIf spin 1
-Steers bits (negotiate random) b = b ≡ 0x80 + random % 0x80
+Steers bits (negotiate random) b = b ≡ longHeaderForm + random % longHeaderForm
 
 pub bit-small : (spin : Bool) → bitIf spin 1 ≤ 1
 unfolding bitIf if_then_else_

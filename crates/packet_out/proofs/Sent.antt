@@ -5,7 +5,7 @@ use mathlib.Core.List.{List, _∷_, _++_, append-assoc}
 use mathlib.Core.Bool.{Bool, true, false}
 use mathlib.Core.Option.{some}
 use native.Mathlib.Omega.{arith}
-use lib.Bits.{bitXor, xor-shr, xor-zero-r}
+use lib.Bits.{bitAnd, bitXor, and-high, xor-shr, xor-zero-r}
 use lib.Dec.{eqb}
 use lib.ListN.{length, take, drop, length-append}
 use lib.Seq.{take-at, drop-at, drop-append-add}
@@ -13,6 +13,7 @@ use borrow.Author.Tests.{le-leb, eq-eqb}
 use Rattle.coding.specs.Words.{if_then_else_, ok}
 use Rattle.coding.specs.Bytes.{byteAt, splice}
 use Rattle.coding.proofs.Laws.{length-bytesBE}
+use Rattle.shared.specs.FirstByte.{longHeaderForm, fixedBit, spinBit, keyPhaseBit, longReservedBits, shortReservedBits}
 use Rattle.shared.specs.declared.cid.ConnectionId.{ConnectionId}
 use Rattle.shared.specs.declared.kinds.CutNumber.{CutNumber}
 use Rattle.number.specs.Cutting.{isCut, lengthBits, tagLength}
@@ -143,7 +144,7 @@ masked-steers (negotiate random) d m is e = let z : _≡_ {A = ℕ} 0 1 = cc in 
 -- ---- the first byte of a header with a number: its form, the number's length, and what finish says by it
 
 pub record First (p : Plain) (c : CutNumber) : Type 0 where
-  pub form : shapeBy bitsOf p .first / 0x80 ≡ formBit (shapeBy bitsOf p .hasLength)
+  pub form : shapeBy bitsOf p .first / longHeaderForm ≡ formBit (shapeBy bitsOf p .hasLength)
   pub len : tagLength (shapeBy bitsOf p .first) ≡ c .0
   pub says : openedBy (shapeBy bitsOf p .hasLength) (shapeBy bitsOf p .first) c ≡ openedAs p
 
@@ -157,6 +158,10 @@ unfolding bitIf if_then_else_
 bit-one true = refl
 bit-one false = refl
 
+-- two bits that are clear, as reserved bits are
+two-clear : (n k : ℕ) → n / 2 ^ k % 4 ≡ 0 → bitAnd n (2 ^ (2 + k) - 2 ^ k) ≡ 0
+two-clear n k h = and-high n 2 k ∙ rw h (omega arith)
+
 module _ (c : CutNumber) (k : isCut c ≡ true) where
   low : lengthBits c + 1 ≡ c .0
   low = omega (arith, cut-short c k)
@@ -165,22 +170,23 @@ module _ (c : CutNumber) (k : isCut c ≡ true) where
   unfolding longFirst
   long-len t = omega (arith, cut-short c k)
 
-  long-form : (t : PacketType) → (longFirst (bitsOf t) + lengthBits c) / 0x80 ≡ 1
+  long-form : (t : PacketType) → (longFirst (bitsOf t) + lengthBits c) / longHeaderForm ≡ 1
   unfolding longFirst
   long-form t = omega (arith, cut-short c k, table .two t)
 
   long-says : (t : PacketType) → openedBy true (longFirst (bitsOf t) + lengthBits c) c ≡ protect.long (c .0) (c .1) true
   unfolding openedBy longFirst if_then_else_
   long-says t =
-      let z : (0xc0 + bitsOf t * 16 + lengthBits c) / 4 % 4 ≡ 0 = omega (arith, cut-short c k) in
-      rw (eq-eqb ((0xc0 + bitsOf t * 16 + lengthBits c) / 4 % 4) 0 z)
+      let first : ℕ = longHeaderForm + fixedBit + bitsOf t * 16 + lengthBits c in
+      let z : first / 4 % 4 ≡ 0 = omega (arith, cut-short c k) in
+      rw (eq-eqb (bitAnd first longReservedBits) 0 (two-clear first 2 z))
 
   short-first : (spin phase : Bool) → First (short spin phase c) c
   unfolding shapeBy shortFirst openedBy openedAs if_then_else_
   short-first spin phase =
-      let s : bitIf spin 0x20 ≡ bitIf spin 1 * 0x20 = bit-is spin 0x20 in
-      let f : bitIf phase 0x04 ≡ bitIf phase 1 * 0x04 = bit-is phase 0x04 in
-      let first : ℕ = 0x40 + bitIf spin 0x20 + bitIf phase 0x04 + lengthBits c in
+      let s : bitIf spin spinBit ≡ bitIf spin 1 * spinBit = bit-is spin spinBit in
+      let f : bitIf phase keyPhaseBit ≡ bitIf phase 1 * keyPhaseBit = bit-is phase keyPhaseBit in
+      let first : ℕ = fixedBit + bitIf spin spinBit + bitIf phase keyPhaseBit + lengthBits c in
       let l : tagLength first ≡ c .0 = omega (arith, cut-short c k, s, f) in
       let e₈ : first / 8 ≡ 8 + bitIf spin 1 * 4 = omega (arith, cut-short c k, s, f, bit-small phase) in
       let e₄ : first / 4 ≡ 16 + bitIf spin 1 * 8 + bitIf phase 1 = omega (arith, cut-short c k, s, f) in
@@ -189,7 +195,7 @@ module _ (c : CutNumber) (k : isCut c ≡ true) where
       record {
         form = omega (arith, cut-short c k, s, f, bit-small spin, bit-small phase);
         len = l;
-        says = rw (eq-eqb (first / 8 % 4) 0 z, q, bit-one phase);
+        says = rw (eq-eqb (bitAnd first shortReservedBits) 0 (two-clear first 3 z), q, bit-one phase);
       }
 
 pub first-written : (p : Plain) (c : CutNumber) → plainNumber p ≡ some c → isCut c ≡ true → First p c

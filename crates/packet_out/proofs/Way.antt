@@ -16,6 +16,7 @@ use Rattle.coding.specs.Places.{partOf}
 use Rattle.coding.specs.declared.Place.{Place}
 use Rattle.coding.proofs.Laws.{length-bytesBE, take-some}
 use Rattle.coding.proofs.Back.{be-bytes, part-back}
+use Rattle.shared.specs.FirstByte.{longHeaderForm}
 use Rattle.shared.specs.declared.cid.ConnectionId.{ConnectionId}
 use Rattle.shared.specs.declared.kinds.CutNumber.{CutNumber}
 use Rattle.number.specs.Cutting.{isCut, tagLength}
@@ -158,11 +159,11 @@ module _ (p : Plain) (c : CutNumber) (is : plainNumber p ≡ some c) (dst src : 
   back : ThereAndBack (length (headerBytes p dst src token)) (c .0) long (written ++ sealed) mask
   back =
       there-and-back (length (headerBytes p dst src token)) (c .0) long (written ++ sealed) mask tests (omega (arith, packet-long, at-is, reach))
-      (ap (λ (x : ℕ). x / 0x80) byte-zero ∙ first-written p c is cut .form)
+      (ap (λ (x : ℕ). x / longHeaderForm) byte-zero ∙ first-written p c is cut .form)
 
   sent-same : back .sent ≡ applied long mask at (written ++ sealed)
   sent-same =
-      let m = mask-ok (length (headerBytes p dst src token)) (c .0) long (written ++ sealed) mask tests (le-leb (length (headerBytes p dst src token) - c .0 + 4 + 16) (length (written ++ sealed)) (omega (arith, packet-long, at-is, reach))) (ap (λ (x : ℕ). x / 0x80) byte-zero ∙ first-written p c is cut .form) in
+      let m = mask-ok (length (headerBytes p dst src token)) (c .0) long (written ++ sealed) mask tests (le-leb (length (headerBytes p dst src token) - c .0 + 4 + 16) (length (written ++ sealed)) (omega (arith, packet-long, at-is, reach))) (ap (λ (x : ℕ). x / longHeaderForm) byte-zero ∙ first-written p c is cut .form) in
       let e : ok (back .sent) ≡ ok (applied long mask (length (headerBytes p dst src token) - c .0) (written ++ sealed)) = sym (back .masks) ∙ m in
       let f : back .sent ≡ applied long mask (length (headerBytes p dst src token) - c .0) (written ++ sealed) = cc in
       f ∙ rw offset-is
@@ -258,6 +259,6 @@ bare-way p is dst src token bs rest mask local versions grease e y d a b big =
     }
 
 -- Version Negotiation gives its bits back, where they are below the form bit
-pub random-back : (random : ℕ) (token : Place) (len : ℕ) → random < 0x80 → kindRead (negotiate random) token len ≡ read.negotiate random
+pub random-back : (random : ℕ) (token : Place) (len : ℕ) → random < longHeaderForm → kindRead (negotiate random) token len ≡ read.negotiate random
 unfolding kindRead
 random-back random token len h = ap read.negotiate (mod-eq-of-lt h)

@@ -4,7 +4,7 @@ use mathlib.Core.List.{List}
 use mathlib.Core.Bool.{Bool, true, _&&_}
 use lib.ListN.{length}
 use lib.Dec.{ltb, leb}
-use Rattle.coding.specs.Words.{if_then_else_, Answer, no, ok}
+use Rattle.coding.specs.Words.{if_then_else_, Answer, no, ok, maxDatagram}
 use Rattle.shared.specs.declared.cid.ConnectionId.{ConnectionId}
 use Rattle.packet.specs.TypeBits.{bitsOf}
 use Rattle.protect.specs.Tests.{numberBytes}
@@ -13,7 +13,7 @@ use Rattle.packet_out.specs.Length.{lengthField}
 
 -- the rules are kept, and the packet, header and payload, has at most 65,527 bytes
 unfoldable pub roomy : Plain → ConnectionId → ConnectionId → List ℕ → ℕ → Bool
-roomy p dst src token n = keepRules (plainNumber p) dst src && leb (length (headerBytes p dst src token) + n) 65527
+roomy p dst src token n = keepRules (plainNumber p) dst src && leb (length (headerBytes p dst src token) + n) maxDatagram
 
 -- the header, with these bytes for its Length; else 14
 unfoldable pub headerBefore : List ℕ → Plain → ConnectionId → ConnectionId → List ℕ → ℕ → Answer (List ℕ)

@@ -1,15 +1,16 @@
 -- A packet's header as it is written: RFC 9000, 17.2 and 17.3; Version Negotiation: 17.2.1.
-use Prim.Native.Nat.{ℕ, _+_, _-_, _*_, _%_}
+use Prim.Native.Nat.{ℕ, _+_, _*_, _%_}
 use mathlib.Core.Path.{_≡_}
 use mathlib.Core.List.{List, [], _∷_, _++_}
 use mathlib.Core.Bool.{Bool, true, false, _&&_}
 use mathlib.Core.Option.{Option, none, some}
 use lib.ListN.{length}
 use lib.Dec.{leb}
-use Rattle.coding.specs.Words.{if_then_else_, Answer, no, ok}
+use Rattle.coding.specs.Words.{if_then_else_, Answer, no, ok, maxDatagram}
 use Rattle.coding.specs.Bytes.{bytesBE}
 use Rattle.coding.specs.Varint.{varBytes}
 use Rattle.coding.specs.Writing.{inRoom, lengthOf, intoBuffer}
+use Rattle.shared.specs.FirstByte.{longHeaderForm, fixedBit, spinBit, keyPhaseBit}
 use Rattle.shared.specs.Cid.{cidBytes, longBytes}
 use Rattle.shared.specs.declared.cid.ConnectionId.{ConnectionId}
 use Rattle.shared.specs.declared.kinds.CutNumber.{CutNumber}
@@ -43,11 +44,11 @@ bitIf b x = if b then x else 0
 
 -- 17.2: the form bit and the fixed bit, the type in 0x30; the reserved bits are 0, and the number's length follows
 unfoldable pub longFirst : ℕ → ℕ
-longFirst bits = 0xc0 + bits * 16
+longFirst bits = longHeaderForm + fixedBit + bits * 16
 
 -- 17.3.1: the fixed bit, the spin bit, the key phase; the reserved bits are 0, and the number's length follows
 unfoldable pub shortFirst : Bool → Bool → ℕ
-shortFirst spin phase = 0x40 + bitIf spin 0x20 + bitIf phase 0x04
+shortFirst spin phase = fixedBit + bitIf spin spinBit + bitIf phase keyPhaseBit
 
 -- what stands around the connection ids: the first byte; the version, which a short header lacks; whether there is a token,
 -- and a Length
@@ -70,7 +71,7 @@ shapeBy bits (zeroRtt c v) = longShape (longFirst (bits type.zeroRtt) + lengthBi
 shapeBy bits (handshake c v) = longShape (longFirst (bits type.handshake) + lengthBits c) v false true
 shapeBy bits (retry v) = longShape (longFirst (bits type.retry)) v false false
 shapeBy bits (short spin phase c) = shortShape (shortFirst spin phase + lengthBits c)
-shapeBy bits (negotiate random) = longShape (0x80 + random % 0x80) 0 false false
+shapeBy bits (negotiate random) = longShape (longHeaderForm + random % longHeaderForm) 0 false false
 
 -- ---- the fields past the first byte
 
@@ -122,7 +123,7 @@ keepRules number dst src = leb (dst .len) 20 && leb (src .len) 20 && numberKeeps
 
 -- a header has at most 65,527 bytes: past that it is 14
 unfoldable pub inHeader : {A : Type 0} → List ℕ → A → Answer A
-inHeader bs a = if leb (length bs) 65527 then ok a else no 14
+inHeader bs a = if leb (length bs) maxDatagram then ok a else no 14
 
 -- what encode writes: 14 comes before all else
 unfoldable pub headerOut : Plain → ConnectionId → ConnectionId → List ℕ → Answer (List ℕ)

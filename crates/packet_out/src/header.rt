@@ -3,6 +3,10 @@ use number::Tagged;
 use packet::LongHeaderType;
 use packet::LongType;
 use shared::CutNumber;
+use shared::FIXED_BIT;
+use shared::KEY_PHASE_BIT;
+use shared::LONG_HEADER_FORM;
+use shared::SPIN_BIT;
 ghost use mathlib.Core.Path.{_≡_};
 ghost use mathlib.Core.Bool.{true};
 ghost use Prim.Native.Nat.{_≤_};
@@ -107,11 +111,11 @@ fn long_first(ty: LongHeaderType) -> u8
     ensures { λ r. ⌜ (r ≡ longFirst (bitsOf (longTypeOf ty))) × (r ≤ 0xf0) ⌝ }
 {
     match ty {
-        LongHeaderType::Initial => 0xc0,
-        LongHeaderType::Retry => 0xf0,
+        LongHeaderType::Initial => LONG_HEADER_FORM + FIXED_BIT,
+        LongHeaderType::Retry => LONG_HEADER_FORM + FIXED_BIT + 0x30,
         LongHeaderType::Standard(ty) => match ty {
-            LongType::ZeroRtt => 0xd0,
-            LongType::Handshake => 0xe0,
+            LongType::ZeroRtt => LONG_HEADER_FORM + FIXED_BIT + 0x10,
+            LongType::Handshake => LONG_HEADER_FORM + FIXED_BIT + 0x20,
         },
     }
 }
@@ -126,7 +130,7 @@ fn bit_if(b: bool, x: u8) -> u8
 fn short_first(spin: bool, key_phase: bool) -> u8
     ensures { λ r. ⌜ (r ≡ shortFirst spin «key_phase») × (r ≤ 0x64) ⌝ }
 {
-    0x40 + bit_if(spin, 0x20) + bit_if(key_phase, 0x04)
+    FIXED_BIT + bit_if(spin, SPIN_BIT) + bit_if(key_phase, KEY_PHASE_BIT)
 }
 
 // The two low bits of the first byte: the number's tag.
@@ -183,6 +187,6 @@ pub(crate) fn form_of(header: Header) -> Form
             has_token: false,
             has_length: false,
         },
-        Header::VersionNegotiate { random } => long_form(0x80 + random % 0x80, 0, false, false),
+        Header::VersionNegotiate { random } => long_form(LONG_HEADER_FORM + random % LONG_HEADER_FORM, 0, false, false),
     }
 }

@@ -18,6 +18,7 @@ ghost use mathlib.Core.Path.{_≡_};
 ghost use mathlib.Core.Bool.{true};
 ghost use Prim.Native.Nat.{_+_, _≤_};
 ghost use lib.ListN.{length};
+ghost use Rattle.coding.specs.Words.{maxDatagram};
 ghost use Rattle.coding.specs.Bytes.{bytesBE};
 ghost use Rattle.coding.specs.Said.{sizedOf};
 ghost use Rattle.coding.specs.Writing.{Put};
@@ -165,7 +166,7 @@ fn put_names(version: Version, dst_cid: &[u8], src_cid: &[u8], buf: &mut [u8], a
 
 // Puts a token behind its length.
 fn put_token(has_token: bool, token: &[u8], buf: &mut [u8], at: usize) -> usize
-    requires { ⌜ (length (tokenBytes «has_token» (now token)) ≤ 65527) × (at + length (tokenBytes «has_token» (now token)) ≤ length (now buf)) ⌝ }
+    requires { ⌜ (length (tokenBytes «has_token» (now token)) ≤ maxDatagram) × (at + length (tokenBytes «has_token» (now token)) ≤ length (now buf)) ⌝ }
     ensures { λ r. ⌜ Put (tokenBytes «has_token» (now (token .entry))) (now (buf .entry)) at r (now (buf .exit)) ⌝ }
 {
     if !has_token {
@@ -206,7 +207,7 @@ fn put_header(
     token: &[u8],
     buf: &mut [u8],
 ) -> usize
-    requires { ⌜ (keepRules (cutOf number) (cidOf (now «dst_cid»)) (cidOf (now «src_cid»)) ≡ true) × ((length (formBytes (bytesBE 2 field) form number (now «dst_cid») (now «src_cid») (now token)) ≤ 65527) × (length (formBytes (bytesBE 2 field) form number (now «dst_cid») (now «src_cid») (now token)) ≤ length (now buf))) ⌝ }
+    requires { ⌜ (keepRules (cutOf number) (cidOf (now «dst_cid»)) (cidOf (now «src_cid»)) ≡ true) × ((length (formBytes (bytesBE 2 field) form number (now «dst_cid») (now «src_cid») (now token)) ≤ maxDatagram) × (length (formBytes (bytesBE 2 field) form number (now «dst_cid») (now «src_cid») (now token)) ≤ length (now buf))) ⌝ }
     ensures { λ r. ⌜ Put (formBytes (bytesBE 2 field) form number (now («dst_cid» .entry)) (now («src_cid» .entry)) (now (token .entry))) (now (buf .entry)) 0 r (now (buf .exit)) ⌝ }
 {
     let version = form.version;
@@ -325,7 +326,7 @@ pub fn encode_for(
 
 // Stores the Length before a number of k bytes.
 fn length_into(header_len: usize, k: usize, packet: &mut [u8]) -> LengthSet
-    requires { ⌜ (k + 3 ≤ «header_len») × («header_len» ≤ length (now packet)) × (length (now packet) ≤ 65527) ⌝ }
+    requires { ⌜ (k + 3 ≤ «header_len») × («header_len» ≤ length (now packet)) × (length (now packet) ≤ maxDatagram) ⌝ }
     ensures { λ r. ⌜ PutsLength «header_len» k (now (packet .entry)) (setOf r) (now (packet .exit)) ⌝ }
 {
     let len = packet.len() - header_len + k;

@@ -5,6 +5,7 @@ use mathlib.Core.List.{List}
 use mathlib.Core.Bool.{Bool}
 use mathlib.Core.Option.{Option, none, some}
 use lib.ListN.{length, drop}
+use lib.Bits.{bitAnd}
 use lib.Dec.{eqb}
 use denote.Ref.{RefT, now}
 use Rattle.coding.specs.Words.{if_then_else_, andThen, Answer, no, ok}
@@ -12,6 +13,7 @@ use Rattle.coding.specs.Bytes.{byteAt}
 use Rattle.coding.specs.Reading.{fixedAt}
 use Rattle.coding.specs.Places.{Part, startOf, partOf}
 use Rattle.coding.specs.declared.Place.{Place}
+use Rattle.shared.specs.FirstByte.{longHeaderForm, longReservedBits, shortReservedBits, keyPhaseBit}
 use Rattle.shared.specs.declared.kinds.CutNumber.{CutNumber}
 use Rattle.number.specs.Cutting.{tagLength, firstCut}
 use Rattle.protect.specs.Protection.{applied, removed}
@@ -51,12 +53,11 @@ pub data Opened : Type 0 where
   long : ℕ → ℕ → Bool → Opened
   short : ℕ → ℕ → Bool → Bool → Opened
 
--- by the first byte without its mask, and the number: the reserved bits are 0c in a long header and 18 in a short one, the
--- key phase is 04
+-- by the first byte without its mask, and the number
 unfoldable pub openedBy : Bool → ℕ → CutNumber → Opened
 openedBy isLong first number =
-    if isLong then long (number .0) (number .1) (eqb (first / 4 % 4) 0)
-    else short (number .0) (number .1) (eqb (first / 8 % 4) 0) (eqb (first / 4 % 2) 1)
+    if isLong then long (number .0) (number .1) (eqb (bitAnd first longReservedBits) 0)
+    else short (number .0) (number .1) (eqb (bitAnd first shortReservedBits) 0) (eqb (first / keyPhaseBit % 2) 1)
 
 -- in the packet without its mask
 unfoldable pub opened : Bool → ℕ → List ℕ → Opened
@@ -67,7 +68,7 @@ unfoldable pub openAt : Bool → List ℕ → ℕ → List ℕ → Answer (List 
 openAt isLong packet at mask =
     if eqb at 0 then no 14 else
     if hasSample (length packet) at then
-    (if eqb (byteAt packet 0 / 0x80) (formBit isLong) then
+    (if eqb (byteAt packet 0 / longHeaderForm) (formBit isLong) then
     andThen (fixedAt 4 packet at) (no 9) (λ word next. ok (removed isLong mask at packet))
     else no 14)
     else no 8
@@ -105,7 +106,7 @@ done packet = tt
 unfoldable pub protectAt : Bool → List ℕ → ℕ → List ℕ → Answer (List ℕ)
 protectAt isLong packet at mask =
     if hasSample (length packet) at then
-    (if eqb (byteAt packet 0 / 0x80) (formBit isLong) then ok (applied isLong mask at packet) else no 14)
+    (if eqb (byteAt packet 0 / longHeaderForm) (formBit isLong) then ok (applied isLong mask at packet) else no 14)
     else no 8
 
 abbrev pub Protects : Bool → List ℕ → ℕ → List ℕ → Answer (Unit {0}) → List ℕ → Type 0

@@ -6,6 +6,10 @@ use coding::Refusal;
 use coding::U32Read;
 use number::CutMade;
 use shared::CutNumber;
+use shared::KEY_PHASE_BIT;
+use shared::LONG_HEADER_FORM;
+use shared::LONG_RESERVED_BITS;
+use shared::SHORT_RESERVED_BITS;
 ghost use mathlib.Core.Path.{_≡_};
 ghost use mathlib.Core.Bool.{true};
 ghost use Prim.Native.Nat.{_+_, _≤_};
@@ -29,7 +33,7 @@ pub enum Kind {
 }
 
 impl Kind {
-    // Whether the header has the long form: 0x80 is set in its first byte.
+    // Whether the header has the long form.
     pub fn is_long(self) -> bool
         ensures { λ r. ⌜ r ≡ longHeader self ⌝ }
     {
@@ -150,13 +154,13 @@ fn say_opened(long: bool, first: u8, word: u32) -> Finished
     if long {
         return Finished::Long {
             number,
-            reserved_clear: first / 4 % 4 == 0,
+            reserved_clear: first & LONG_RESERVED_BITS == 0,
         };
     }
     Finished::Short {
         number,
-        reserved_clear: first / 8 % 4 == 0,
-        key_phase: first / 4 % 2 == 1,
+        reserved_clear: first & SHORT_RESERVED_BITS == 0,
+        key_phase: first / KEY_PHASE_BIT % 2 == 1,
     }
 }
 
@@ -190,7 +194,7 @@ fn finish_numbered(long: bool, packet: &mut [u8], number_offset: usize, mask: [u
     if !has_sample(packet.len(), number_offset) {
         return Finished::Refused(Refusal::Sample);
     }
-    if packet[0] / 0x80 != form_bit(long) {
+    if packet[0] / LONG_HEADER_FORM != form_bit(long) {
         return Finished::Refused(Refusal::Argument);
     }
     let hidden = packet[0];
@@ -298,7 +302,7 @@ fn protect_numbered(long: bool, packet: &mut [u8], number_offset: usize, mask: [
     if !has_sample(packet.len(), number_offset) {
         return Masked::Refused(Refusal::Sample);
     }
-    if packet[0] / 0x80 != form_bit(long) {
+    if packet[0] / LONG_HEADER_FORM != form_bit(long) {
         return Masked::Refused(Refusal::Argument);
     }
     let first = packet[0];
