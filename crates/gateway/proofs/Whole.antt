@@ -16,7 +16,7 @@ use Rattle.packet.specs.TypeBits.{bitsOf}
 use Rattle.packet_out.specs.Encoding.{Plain, plainNumber, numberLenIn, numberKeeps, keepRules, shapeBy, writtenHeader, headerBytes}
 use Rattle.packet_out.specs.Length.{lengthField, lengthSet}
 use Rattle.packet_out.proofs.Laws.{kept, length-small}
-use Rattle.packet_out.proofs.Sent.{sets}
+use Rattle.packet_out.proofs.LengthAndMask.{sets}
 use Rattle.packet_out.specs.Before.{roomy, numberSize, lengthFits, fits, headerWith}
 
 -- what fits

@@ -5,6 +5,6 @@ pub mod Cuts
 pub mod Readings
 pub mod Calls
 pub mod Delivery
-pub mod Runs
+pub mod BothWays
 pub mod Inverse
 pub mod Onces

@@ -1,5 +1,5 @@
 -- The cases of what is written, each from the tests that lead to it.
-use Prim.Native.Nat.{ℕ, _+_, _-_, _/_, _%_, _^_, _≤_, _<_}
+use Prim.Native.Nat.{ℕ, _+_, _-_, _^_, _≤_, _<_}
 use mathlib.Core.Path.{_≡_, refl, sym, ap, _∙_}
 use mathlib.Core.List.{List, _∷_, _++_}
 use mathlib.Core.Bool.{Bool, true, false, _&&_}
@@ -10,7 +10,7 @@ use lib.Dec.{leb}
 use borrow.Author.Tests.{le-leb, lt-leb, leb-true, leb-false, ltb-true, lt-ltb, le-ltb}
 use Rattle.coding.specs.Words.{if_then_else_, Answer, no, ok}
 use Rattle.coding.specs.Refusals.{numberOf}
-use Rattle.coding.specs.Bytes.{bytesBE, splice}
+use Rattle.coding.specs.Bytes.{splice}
 use Rattle.coding.specs.Varint.{varSize}
 use Rattle.coding.specs.Said.{sizedOf}
 use Rattle.coding.specs.declared.varint.Sized.{Sized}

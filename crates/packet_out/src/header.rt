@@ -187,6 +187,9 @@ pub(crate) fn form_of(header: Header) -> Form
             has_token: false,
             has_length: false,
         },
-        Header::VersionNegotiate { random } => long_form(LONG_HEADER_FORM + random % LONG_HEADER_FORM, 0, false, false),
+        Header::VersionNegotiate { random } => {
+            let first = LONG_HEADER_FORM + random % LONG_HEADER_FORM;
+            long_form(first, 0, false, false)
+        }
     }
 }

@@ -7,7 +7,7 @@ use mathlib.Core.Option.{some}
 use native.Mathlib.Nat.{not-suc-le-zero, le-of-suc-le-suc}
 use native.Mathlib.Omega.{arith}
 use lib.Bits.{bitXor, xor-shr, xor-zero-r}
-use lib.ListN.{length, take, drop, getD, length-take}
+use lib.ListN.{length, drop, getD, length-take}
 use borrow.Author.Tests.{le-leb}
 use Rattle.coding.specs.Words.{if_then_else_, ok, maxDatagram}
 use Rattle.coding.specs.Bytes.{byteAt}

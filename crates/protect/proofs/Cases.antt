@@ -1,5 +1,5 @@
 -- The cases of the sample's place, finish and the mask step, each from the tests that lead to it.
-use Prim.Native.Nat.{ℕ, zero, suc, _+_, _-_, _/_, _%_, _^_, _<_, _≤_}
+use Prim.Native.Nat.{ℕ, zero, suc, _+_, _-_, _/_, _%_, _<_, _≤_}
 use mathlib.Core.Path.{_≡_, refl, sym, ap, _∙_}
 use mathlib.Core.List.{List, [], _∷_}
 use mathlib.Core.Bool.{Bool, true, false, not, _&&_}
@@ -29,8 +29,7 @@ use Rattle.number.proofs.Cuts.{read-some}
 use Rattle.number.proofs.Firsts.{be-again}
 use Rattle.protect.specs.Protection.{xor, xorAt, firstMask, numberMask, masked, applied, removed}
 use Rattle.protect.specs.Tests.{inSize, hasSample, formBit, numberBytes, numberFits, leastHeader, headerTests}
-use Rattle.protect.specs.Steps.{readOff, leftBy, Changed, sampleAt, Opened, unnumbered, openedBy, opened, openAt, Opens}
-use Rattle.protect.specs.Steps.{finishAt, finished, Finishes, protectAt, Protects, maskNumber, maskAt, Masks}
+use Rattle.protect.specs.Steps.{readOff, leftBy, Changed, sampleAt, Opened, unnumbered, openedBy, opened, openAt, Opens, finishAt, finished, Finishes, protectAt, Protects, maskNumber, maskAt, Masks}
 use Rattle.protect.specs.Said.{finishedOf}
 use Rattle.protect.specs.declared.Finished.the-variants as fin
 use Rattle.protect.proofs.Xor.{length-xorAt}

@@ -199,7 +199,8 @@ fn finish_numbered(long: bool, packet: &mut [u8], number_offset: usize, mask: [u
     }
     let hidden = packet[0];
     let first = hidden ^ first_mask(mask[0], long);
-    mask_header(packet, number_offset, first, number::decode_len(first), mask);
+    let len = number::decode_len(first);
+    mask_header(packet, number_offset, first, len, mask);
     let U32Read::Num(word, _) = coding::get_u32(packet, number_offset) else {
         return Finished::Refused(Refusal::Number);
     };
@@ -307,7 +308,8 @@ fn protect_numbered(long: bool, packet: &mut [u8], number_offset: usize, mask: [
     }
     let first = packet[0];
     let hidden = first ^ first_mask(mask[0], long);
-    mask_header(packet, number_offset, hidden, number::decode_len(first), mask);
+    let n = number::decode_len(first);
+    mask_header(packet, number_offset, hidden, n, mask);
     Masked::Done
 }
 

@@ -1,4 +1,3 @@
-use Rattle.protect.specs.Said.{numberLenOf}
 use Rattle.packet_out.specs.Encoding.{numberLenIn}
 use Rattle.packet_out.specs.Said.{cutOf}
 use borrow.Author.Needs.{needs}

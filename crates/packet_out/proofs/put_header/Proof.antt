@@ -1,4 +1,4 @@
-use Rattle.packet_out.proofs.Runs.{names-room, token-room, header-put}
+use Rattle.packet_out.proofs.WholePut.{names-room, token-room, header-put}
 use Prim.Native.Nat.{_<_}
 use native.Mathlib.Omega.{arith}
 use denote.Ref.{now}

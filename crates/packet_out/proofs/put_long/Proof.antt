@@ -1,4 +1,4 @@
-use Rattle.packet_out.proofs.Runs.{long-run}
+use Rattle.packet_out.proofs.WholePut.{long-run}
 use denote.Ref.{now}
 use borrow.Author.Needs.{needs}
 use Rattle.packet_out.proofs.put_long.Statement.{statement}

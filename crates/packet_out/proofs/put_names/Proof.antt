@@ -1,4 +1,4 @@
-use Rattle.packet_out.proofs.Runs.{dst-room, src-room, names-run}
+use Rattle.packet_out.proofs.WholePut.{dst-room, src-room, names-run}
 use Rattle.shared.specs.Cid.{cidOf}
 use Rattle.shared.proofs.Back.{cid-same}
 use Rattle.packet_out.specs.Encoding.{namesBytes}

@@ -1,7 +1,7 @@
 use Rattle.coding.proofs.Writes.{put-none}
 use Rattle.packet_out.specs.Encoding.{numberKeeps, numberField}
 use Rattle.packet_out.specs.Said.{cutOf}
-use Rattle.packet_out.proofs.Runs.{number-run}
+use Rattle.packet_out.proofs.WholePut.{number-run}
 use borrow.Author.Needs.{needs}
 use Rattle.packet_out.proofs.put_number.Statement.{statement}
 use Rattle.packet_out.proofs.put_number.Tie as tie

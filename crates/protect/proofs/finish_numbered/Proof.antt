@@ -55,7 +55,7 @@ mask-header-requires c κs =
     let s = c .before .before .before .before .before .before .before in
     let a = s .before .before .before .before .args in
     let h = reaches (length (a .packet .now)) (a .number-offset) (s .before .has-sample .ensures) (s .if2 .left) in
-    (omega (arith, c .decode-len .ensures), omega arith)
+    (omega (arith, c .before .decode-len .ensures), omega arith)
 
 get-u32-requires : tie.Need-get-u32-requires
 get-u32-requires c κs = search needs
@@ -87,8 +87,8 @@ returns-5 : tie.Need-returns-5
 returns-5 c =
     let g = c .before .before .before .before in
     let m = g .before .before .before .before in
-    let n = m .before in
-    let f = n .before .before in
+    let n = m .before .before in
+    let f = n .before in
     let b = f .before .before in
     let s = b .before .before .before in
     open-done _ _ _ _ (s .before .before .if1 .left) (told (s .before .has-sample .ensures) (s .if2 .left)) (b .if3 .left ∙ b .before .form-bit .ensures) _ _ _

@@ -50,7 +50,7 @@ mask-header-requires c κs =
     let s = c .before .before .before .before .before .before .before in
     let a = s .before .before .before .args in
     let h = reaches (length (a .packet .now)) (a .number-offset) (s .before .has-sample .ensures) (s .if1 .left) in
-    (omega (arith, c .decode-len .ensures), omega arith)
+    (omega (arith, c .before .decode-len .ensures), omega arith)
 
 same-length : tie.Need-same-length
 same-length c = search needs
@@ -58,8 +58,8 @@ same-length c = search needs
 returns-3 : tie.Need-returns-3
 unfolding maskedOf
 returns-3 c =
-    let n = c .before .before .before in
-    let f = n .before .before in
+    let n = c .before .before .before .before in
+    let f = n .before in
     let b = f .before .before in
     let s = b .before .before .before in
     changed-ok _ _

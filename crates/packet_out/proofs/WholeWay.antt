@@ -1,5 +1,5 @@
 -- The whole way: encode, the Length step, encryption of the payload, the mask step, split and finish.
-use Prim.Native.Nat.{ℕ, _+_, _-_, _/_, _%_, _^_, _≤_, _<_}
+use Prim.Native.Nat.{ℕ, _+_, _-_, _/_, _^_, _≤_, _<_}
 use mathlib.Core.Path.{_≡_, refl, sym, ap, _∙_}
 use mathlib.Core.List.{List, [], _∷_, _++_, append-nil}
 use mathlib.Core.Bool.{Bool, true, false}
@@ -7,15 +7,15 @@ use mathlib.Core.Option.{none, some}
 use native.Mathlib.Nat.{mod-eq-of-lt}
 use native.Mathlib.Omega.{arith}
 use lib.Bits.{bitXor}
-use lib.ListN.{length, take, drop, length-append}
-use lib.Seq.{take-at, drop-at}
+use lib.ListN.{length, drop, length-append}
+use lib.Seq.{drop-at}
 use borrow.Author.Tests.{le-ltb, le-leb}
 use Rattle.coding.specs.Words.{if_then_else_, andThen, no, ok}
-use Rattle.coding.specs.Bytes.{byteAt, be, bytesBE}
+use Rattle.coding.specs.Bytes.{byteAt}
 use Rattle.coding.specs.Places.{partOf}
 use Rattle.coding.specs.declared.Place.{Place}
 use Rattle.coding.proofs.Laws.{length-bytesBE, take-some}
-use Rattle.coding.proofs.Back.{be-bytes, part-back}
+use Rattle.coding.proofs.Back.{part-back}
 use Rattle.shared.specs.FirstByte.{longHeaderForm}
 use Rattle.shared.specs.declared.cid.ConnectionId.{ConnectionId}
 use Rattle.shared.specs.declared.kinds.CutNumber.{CutNumber}
@@ -30,14 +30,14 @@ use Rattle.protect.specs.Tests.{inSize, headerTests}
 use Rattle.protect.specs.Steps.{opened, finishAt, finished, maskAt, readOff, payloadPlace}
 use Rattle.protect.proofs.Back.{ThereAndBack, there-and-back, number-back, length-applied}
 use Rattle.protect.proofs.Cases.{mask-ok, mask-none}
-use Rattle.packet_out.specs.Encoding.{Plain, initial, zeroRtt, handshake, retry, short, negotiate, plainNumber, bitIf, shapeBy, lengthBytes, numberField, writtenHeader, headerBytes, headerOut, numberKeeps, placeholder}
+use Rattle.packet_out.specs.Encoding.{Plain, initial, zeroRtt, handshake, retry, short, negotiate, plainNumber, shapeBy, lengthBytes, numberField, writtenHeader, headerBytes, headerOut, numberKeeps, placeholder}
 use Rattle.packet_out.specs.Length.{lengthField, lengthSet}
 use Rattle.packet_out.specs.Back.{readAs, kindRead, tokenPlace, endRead, Readable, Typed, openedAs}
 use Rattle.packet_out.proofs.Laws.{length-shape, set-none}
-use Rattle.packet_out.proofs.Back.{upTo, header-back}
+use Rattle.packet_out.proofs.HeaderBack.{upTo, header-back}
 use Rattle.packet.proofs.Types.{table}
-use Rattle.packet_out.proofs.Again.{reads-length, first-steers, header-then, WasWritten, was-written, encode-back, token-back}
-use Rattle.packet_out.proofs.Sent.{length-field, sets, number-len, offset, passes, upToNumber, numbered, length-header, masked-steers, first-written, masked-shape}
+use Rattle.packet_out.proofs.EncodedBack.{reads-length, first-steers, header-then, WasWritten, was-written, encode-back, token-back}
+use Rattle.packet_out.proofs.LengthAndMask.{length-field, sets, number-len, offset, passes, upToNumber, numbered, length-header, masked-steers, first-written, masked-shape}
 
 -- ---- split
 

@@ -20,7 +20,7 @@ use Rattle.packet_out.specs.Encoding.{Plain, plainNumber, shapeBy, shape
 use Rattle.packet_out.specs.Length.{lengthField}
 use Rattle.packet_out.specs.Before.{roomy, headerBefore, numberSize, lengthFits, fieldFor, fits, headerWith}
 use Rattle.packet_out.proofs.Laws.{lent-long}
-use Rattle.packet_out.proofs.Sent.{without}
+use Rattle.packet_out.proofs.LengthAndMask.{without}
 
 -- ---- with its Length
 

@@ -27,7 +27,7 @@ use Rattle.packet_out.specs.Length.{lengthField}
 use Rattle.packet_out.specs.Back.{readAs, tokenPlace, Readable, Typed}
 use Rattle.packet_out.proofs.Laws.{Kept, kept, cut-short, length-shape, length-token, fits-seen}
 use Rattle.packet_out.proofs.Fields.{ReadsAs}
-use Rattle.packet_out.proofs.Back.{Steers, upTo, header-back}
+use Rattle.packet_out.proofs.HeaderBack.{Steers, upTo, header-back}
 
 -- ---- the Length's two bytes
 

@@ -1,5 +1,5 @@
 -- The runs of puts: what each leaves room for, and that together they put the whole.
-use Prim.Native.Nat.{ℕ, _+_, _/_, _%_, _≤_, _<_}
+use Prim.Native.Nat.{ℕ, _+_, _≤_, _<_}
 use mathlib.Core.Path.{_≡_}
 use mathlib.Core.List.{List, [], _∷_, _++_, append-assoc}
 use mathlib.Core.Bool.{true}
@@ -8,7 +8,7 @@ use native.Mathlib.Omega.{arith}
 use lib.ListN.{length, length-append}
 use Rattle.coding.specs.Bytes.{bytesBE}
 use Rattle.coding.specs.Writing.{Put}
-use Rattle.coding.proofs.Laws.{length-splice, length-bytesBE}
+use Rattle.coding.proofs.Laws.{length-splice}
 use Rattle.coding.proofs.Writes.{So, put-fits, put-so, so-put}
 use Rattle.shared.specs.Cid.{cidOf, longBytes}
 use Rattle.shared.specs.declared.cid.ConnectionId.{ConnectionId}

@@ -27,7 +27,7 @@ use Rattle.packet_out.specs.Encoding.{Plain, initial, zeroRtt, handshake
 use Rattle.packet_out.specs.Length.{lengthField, lengthSet}
 use Rattle.packet_out.specs.Back.{openedAs}
 use Rattle.packet_out.proofs.Laws.{cut-short, length-shape, length-fields, length-number, set-none, set-on, into-ok}
-use Rattle.packet_out.proofs.Back.{Steers, upTo, bit-small}
+use Rattle.packet_out.proofs.HeaderBack.{Steers, upTo, bit-small}
 use Rattle.packet.proofs.Types.{table}
 
 -- ---- the Length, in its place
