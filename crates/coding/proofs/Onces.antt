@@ -39,6 +39,8 @@ use Rattle.coding.proofs.take as take
 use Rattle.coding.proofs.take.Reads as take-reads
 use Rattle.coding.proofs.part as part
 use Rattle.coding.proofs.part.Reads as part-reads
+use Rattle.coding.proofs.put_num as put-num
+use Rattle.coding.proofs.put_num.Reads as put-num-reads
 use Rattle.coding.proofs.put_u8 as put-u8
 use Rattle.coding.proofs.put_u8.Reads as put-u8-reads
 use Rattle.coding.proofs.put_u16 as put-u16
@@ -143,6 +145,10 @@ unfolding Once
 part-not-whole κs a f = name-free (a .0) _ _ (λ x y p q. f κs a x y a a p q)
 
 -- ---- puts
+
+put-num-once : Once {B = ℕ × List ℕ} put-num.ended put-num-reads.Post (λ κs x s. (x, now (s .0)))
+unfolding Once
+put-num-once κs a x y s t p q = one-put _ _ _ x y _ _ p q
 
 put-u8-once : Once {B = ℕ × List ℕ} put-u8.ended put-u8-reads.Post (λ κs x s. (x, now (s .0)))
 unfolding Once

@@ -207,8 +207,9 @@ fn put_be(buf: &mut [u8], at: usize, n: usize, x: u64)
     }
 }
 
-// A put stores at a place and answers the next; where it does not fit, it answers the place, and buf is as it was.
-fn put_num(buf: &mut [u8], at: usize, n: usize, x: u64) -> usize
+// A put stores at a place and answers the next; where it does not fit, it answers the place, and buf is as it was. Here: the
+// last n bytes of x.
+pub fn put_num(buf: &mut [u8], at: usize, n: usize, x: u64) -> usize
     ensures { λ r. ⌜ Put (bytesBE n x) (now (buf .entry)) at r (now (buf .exit)) ⌝ }
 {
     if buf.len() < at {

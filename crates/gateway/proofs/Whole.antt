@@ -13,31 +13,31 @@ use Rattle.shared.specs.declared.cid.ConnectionId.{ConnectionId}
 use Rattle.shared.specs.declared.kinds.CutNumber.{CutNumber}
 use Rattle.number.specs.Cutting.{isCut}
 use Rattle.packet.specs.TypeBits.{bitsOf}
-use Rattle.packet_out.specs.Encoding.{Plain, numberIn, numberLenIn, numberKeeps, keepRules, shapeBy, headerBy, headerBytes}
+use Rattle.packet_out.specs.Encoding.{Plain, plainNumber, numberLenIn, numberKeeps, keepRules, shapeBy, writtenHeader, headerBytes}
 use Rattle.packet_out.specs.Length.{lengthField, lengthSet}
 use Rattle.packet_out.proofs.Laws.{kept, length-small}
-use Rattle.packet_out.proofs.Sent.{sets}
+use Rattle.packet_out.proofs.LengthAndMask.{sets}
 use Rattle.packet_out.specs.Before.{roomy, numberSize, lengthFits, fits, headerWith}
 
 -- what fits
 record Fit (p : Plain) (dst src : ConnectionId) (token : List ℕ) (n : ℕ) : Type 0 where
-  rules : keepRules (numberIn p) dst src ≡ true
+  rules : keepRules (plainNumber p) dst src ≡ true
   all : length (headerBytes p dst src token) + n ≤ 65527
   len : lengthFits (shapeBy bitsOf p .hasLength) (numberSize p + n) ≡ true
 
 module _ (p : Plain) (dst src : ConnectionId) (token : List ℕ) (n : ℕ) where
   fit : fits p dst src token n ≡ true → Fit p dst src token n
   unfolding fits roomy
-  fit = go (keepRules (numberIn p) dst src) (leb (length (headerBytes p dst src token) + n) 65527) (lengthFits (shapeBy bitsOf p .hasLength) (numberSize p + n)) refl refl refl
+  fit = go (keepRules (plainNumber p) dst src) (leb (length (headerBytes p dst src token) + n) 65527) (lengthFits (shapeBy bitsOf p .hasLength) (numberSize p + n)) refl refl refl
     where
-      go : (a b d : Bool) → keepRules (numberIn p) dst src ≡ a → leb (length (headerBytes p dst src token) + n) 65527 ≡ b
+      go : (a b d : Bool) → keepRules (plainNumber p) dst src ≡ a → leb (length (headerBytes p dst src token) + n) 65527 ≡ b
           → lengthFits (shapeBy bitsOf p .hasLength) (numberSize p + n) ≡ d → ((a && b) && d) ≡ true → Fit p dst src token n
       go true true true x y z h = record { rules = x; all = leb-true _ _ y; len = z }
       go true true false x y z h = let q : _≡_ {A = ℕ} 0 1 = cc in absurd (omega arith)
       go true false d x y z h = let q : _≡_ {A = ℕ} 0 1 = cc in absurd (omega arith)
       go false b d x y z h = let q : _≡_ {A = ℕ} 0 1 = cc in absurd (omega arith)
 
-module _ (p : Plain) (dst src : ConnectionId) (token payload : List ℕ) (c : CutNumber) (is : numberIn p ≡ some c)
+module _ (p : Plain) (dst src : ConnectionId) (token payload : List ℕ) (c : CutNumber) (is : plainNumber p ≡ some c)
     (t : fits p dst src token (length payload) ≡ true) where
   size : numberSize p ≡ c .0
   unfolding numberLenIn
@@ -52,7 +52,7 @@ module _ (p : Plain) (dst src : ConnectionId) (token payload : List ℕ) (c : Cu
 
   -- what header_write stores
   unfoldable pub whole : List ℕ
-  whole = headerBy bitsOf (lengthField (numberSize p + length payload)) p dst src token
+  whole = writtenHeader bitsOf (lengthField (numberSize p + length payload)) p dst src token
 
   pub written : headerWith p dst src token (length payload) ≡ ok whole
   unfolding headerWith whole if_then_else_
@@ -63,4 +63,4 @@ module _ (p : Plain) (dst src : ConnectionId) (token payload : List ℕ) (c : Cu
   unfolding whole
   encoded-then-set =
       sets p dst src token c is (shapeBy bitsOf p .hasLength) payload refl cuts (fit p dst src token (length payload) t .all) few
-      ∙ ap (λ (k : ℕ). ok (headerBy bitsOf (lengthField (k + length payload)) p dst src token ++ payload)) (sym size)
+      ∙ ap (λ (k : ℕ). ok (writtenHeader bitsOf (lengthField (k + length payload)) p dst src token ++ payload)) (sym size)

@@ -93,7 +93,7 @@ pub(crate) fn header_record(e: Encoded) -> HeaderAnswer
                 refusal: 0,
                 has_length: packets::flag_of(p.has_length),
                 header_len: p.header_len,
-                number_len: packet_out::bytes_of(number),
+                number_len: protect::bytes_of(number),
             }
         }
         Encoded::Refused(why) => no_header(why.number()),

@@ -18,7 +18,7 @@ ghost use mathlib.Core.Path.{_≡_};
 ghost use lib.ListN.{length};
 ghost use Rattle.frame.specs.Table.{flag};
 ghost use Rattle.packet.specs.Said.{headerOf, outcomeOf, stepOf};
-ghost use Rattle.protect.specs.Said.{longOf, numberedOf, numberLenOf, sampleOf, finishedOf};
+ghost use Rattle.protect.specs.Said.{longHeader, numberedOf, numberLenOf, sampleOf, finishedOf};
 ghost use Rattle.gateway.specs.Arguments.{longKind, numberedKind, numberGiven};
 ghost use Rattle.gateway.specs.Packets.{headerHas, headerRefused, numbersOf, dstAt, srcAt, headerRecord, noPacket, stepRecord, noSample, sampleRecord, headerSpan, payloadSpan, notOpened, openedWith, unmaskRecord};
 
@@ -41,7 +41,7 @@ pub(crate) fn flag_of(b: bool) -> u8
 
 // The kind by its number; what is past 4 counts as Version Negotiation.
 pub(crate) fn kind_of(kind: u8) -> Kind
-    ensures { λ r. ⌜ (longOf r ≡ longKind kind) × (numberedOf r ≡ numberedKind kind) ⌝ }
+    ensures { λ r. ⌜ (longHeader r ≡ longKind kind) × (numberedOf r ≡ numberedKind kind) ⌝ }
 {
     match kind {
         0 => Kind::Initial,

@@ -1,4 +1,4 @@
--- The cases of the calls on the number ends. Assumes nothing.
+-- The cases of the calls on the number ends.
 use Prim.Native.Nat.{ℕ, _+_, _-_, _^_, _≤_, _<_}
 use mathlib.Core.Path.{_≡_, refl, sym, ap, _∙_}
 use mathlib.Core.Bool.{Bool, true, false}

@@ -1,21 +1,23 @@
--- The cases of a cut, what it says of its number, and its bytes read back. Assumes nothing.
-use Prim.Native.Nat.{ℕ, zero, suc, _+_, _-_, _*_, _%_, _^_, _≤_, _<_}
+-- The cases of a cut, what it says of its number, and its bytes read back.
+use Prim.Native.Nat.{ℕ, _-_, _*_, _/_, _%_, _^_, _≤_, _<_}
 use mathlib.Core.Path.{_≡_, refl, sym, ap, _∙_}
 use mathlib.Core.Bool.{Bool, true, false}
 use mathlib.Core.List.{List, [], _++_}
 use mathlib.Core.Logic.{⊎-elim}
-use native.Mathlib.Nat.{mod-eq-of-lt, mod-lt, zero-add}
+use native.Mathlib.Nat.{mod-eq-of-lt, mod-lt}
 use native.Mathlib.Omega.{arith}
-use lib.ListN.{length, take, drop, length-take}
-use lib.Seq.{take-at, take-all}
+use lib.ListN.{length, take, length-take}
+use lib.Seq.{take-at}
 use lib.Dec.{eqb}
 use borrow.Author.Tests.{lt-ltb, le-ltb, eq-eqb, ne-eqb, eqb-true, eqb-false}
 use Rattle.coding.specs.Words.{if_then_else_, no, ok}
 use Rattle.coding.specs.Bytes.{be, bytesBE}
+use Rattle.coding.specs.Writing.{Put}
 use Rattle.coding.proofs.Laws.{length-bytesBE, pow256, Octets, octets-take, be-below}
 use Rattle.coding.proofs.Back.{be-bytes}
 use Rattle.shared.specs.declared.kinds.CutNumber.{CutNumber}
-use Rattle.number.specs.Cutting.{cut, windowOf, isCut, bytesFor, cutTo, cutMade, cutTag, cutOut, cutPut, cutRead}
+use Rattle.number.specs.Cutting.{cut, windowOf, isCut, bytesFor, cutTo, cutMade, lengthBits, cutTag, cutBytes, cutOut, cutPut, firstCut, cutRead}
+use Rattle.number.proofs.Firsts.{be-shorter}
 use Rattle.number.proofs.Windows.{le?, bytes-power, Window, window-made, Fit, bytes-fit, cut-rule}
 
 -- ---- the cases of a cut
@@ -84,15 +86,15 @@ cut-kept {n} {acked} {c} i =
 
 module _ (c : CutNumber) where
   module _ (e : isCut c ≡ true) where
-    pub tag-in : ok (c .0 - 1) ≡ cutTag c
+    pub tag-in : ok (lengthBits c) ≡ cutTag c
     unfolding cutTag if_then_else_
     tag-in = rw e
 
-    pub out-in : cutOut c ≡ ok (bytesBE (c .0) (c .1))
+    pub out-in : cutOut c ≡ ok (cutBytes c)
     unfolding cutOut if_then_else_
     out-in = rw e
 
-    pub put-in : cutPut c ≡ bytesBE (c .0) (c .1)
+    pub put-in : cutPut c ≡ cutBytes c
     unfolding cutPut if_then_else_
     put-in = rw e
 
@@ -111,21 +113,10 @@ module _ (c : CutNumber) where
 
 -- ---- bytes
 
--- the last k of more bytes are the bytes of k
-pub last-bytes : (m k x : ℕ) → drop m (bytesBE (m + k) x) ≡ bytesBE k x
-unfolding bytesBE
-last-bytes zero k x = ap (λ (n : ℕ). bytesBE n x) (zero-add k)
-last-bytes (suc m) k x =
-    let e : suc m + k ≡ suc (m + k) = omega arith in
-    rw e (last-bytes m k x)
-
--- and so of four bytes
-pub last-four : (k x : ℕ) (bs : List ℕ) → bs ≡ bytesBE 4 x → k ≤ 4 → take (4 - (4 - k)) (drop (4 - k) bs) ≡ bytesBE k x
-last-four k x bs e p =
-    let m : 4 - k + k ≡ 4 = omega arith in
-    let n : 4 - (4 - k) ≡ k = omega arith in
-    let d : drop (4 - k) (bytesBE 4 x) ≡ bytesBE k x = rw m at (last-bytes (4 - k) k x) in
-    rw (e, n, d) (take-all k (bytesBE k x) (omega (arith, length-bytesBE k x)))
+-- a put of as many bytes as it has
+pub put-length : (c : CutNumber) {n : ℕ} {old new : List ℕ} {at next : ℕ} → isCut c ≡ true → c .0 ≡ n → Put (bytesBE n (c .1)) old at next new
+    → Put (cutPut c) old at next new
+put-length c i e p = rw (put-in c i, e) p
 
 module _ (k : ℕ) (bs : List ℕ) where
   pub read-few : k < 1 → no 14 ≡ cutRead k bs
@@ -136,20 +127,28 @@ module _ (k : ℕ) (bs : List ℕ) where
   unfolding cutRead if_then_else_
   read-many p q = simp (le-ltb _ _ p, lt-ltb _ _ q)
 
-  pub read-some : 1 ≤ k → k ≤ 4 → ok (cut k (be 0 (take k bs))) ≡ cutRead k bs
+  pub read-some : 1 ≤ k → k ≤ 4 → ok (firstCut k bs) ≡ cutRead k bs
   unfolding cutRead if_then_else_
   read-some p q = simp (le-ltb _ _ p, le-ltb _ _ q)
 
+-- of a word's four bytes
+pub read-word : (k word : ℕ) {v : ℕ} → 1 ≤ k → k ≤ 4 → word < 2 ^ 32 → v ≡ word / 256 ^ (4 - k) → ok (cut k v) ≡ cutRead k (bytesBE 4 word)
+read-word k word p q h e = ap (λ (x : ℕ). ok (cut k x)) (e ∙ sym (be-shorter 4 k word q h)) ∙ read-some k (bytesBE 4 word) p q
+
 -- what is written of a cut number is read back
-pub cut-back : (c : CutNumber) (q : List ℕ) → isCut c ≡ true → cutRead (c .0) (cutPut c ++ q) ≡ ok c
-cut-back c q e =
+pub first-back : (c : CutNumber) (q : List ℕ) → isCut c ≡ true → firstCut (c .0) (cutBytes c ++ q) ≡ c
+first-back c q e =
     let r = cut-rule c e in
-    let bs : List ℕ = bytesBE (c .0) (c .1) in
-    let t : take (c .0) (bs ++ q) ≡ bs = take-at bs q (c .0) (length-bytesBE (c .0) (c .1)) in
+    let t : take (c .0) (cutBytes c ++ q) ≡ cutBytes c = take-at (cutBytes c) q (c .0) (length-bytesBE (c .0) (c .1)) in
     let w : windowOf (c .0) ≡ 256 ^ c .0 = r .window .is ∙ bytes-power (c .0) in
     let v : c .1 % 256 ^ c .0 ≡ c .1 = mod-eq-of-lt (rw w at (r .value)) in
-    let b : be 0 bs ≡ c .1 = be-bytes (c .0) 0 (c .1) ∙ rw v (omega arith) in
-    sym (read-some (c .0) (cutPut c ++ q) (r .window .low) (r .window .high)) ∙ rw (put-in c e, t, b)
+    let b : be 0 (cutBytes c) ≡ c .1 = be-bytes (c .0) 0 (c .1) ∙ rw v (omega arith) in
+    rw (t, b)
+
+pub cut-back : (c : CutNumber) (q : List ℕ) → isCut c ≡ true → cutRead (c .0) (cutPut c ++ q) ≡ ok c
+cut-back c q e =
+    let w = cut-rule c e .window in
+    sym (read-some (c .0) (cutPut c ++ q) (w .low) (w .high)) ∙ rw (put-in c e) (ap ok (first-back c q e))
 
 -- and what is read of bytes keeps the rule
 pub read-rule : (k : ℕ) (bs : List ℕ) (c : CutNumber) → Octets bs → cutRead k bs ≡ ok c → isCut c ≡ true

@@ -1,18 +1,19 @@
 -- On any line that invents nothing, a packet is read as it was sent exactly when the largest accepted number is near; and the
--- model does what the letter says of its ends. Assumes nothing.
+-- model does what the letter says of its ends.
 use Prim.Native.Nat.{ℕ, suc, _+_, _-_, _*_, _%_, _^_, _≤_, _<_}
 use mathlib.Core.Path.{_≡_, refl, sym, ap, _∙_}
-use mathlib.Core.List.{List, [], _∷_, List·Memᴰ, List·Memᴰ·cases-cons, List·Memᴰ·not-nil}
+use mathlib.Core.List.{List, [], _∷_, List·Memᴰ, List·Memᴰ·head, List·Memᴰ·tail, List·Memᴰ·cases-cons, List·Memᴰ·not-nil}
 use mathlib.Core.Logic.{_↔_, ⊎-elim}
 use native.Mathlib.Omega.{arith}
 use native.Mathlib.Numerals.{add-one}
 use lib.ListN.{length}
-use Rattle.coding.specs.Words.{ok}
+use borrow.Author.Tests.{lt-ltb, le-ltb}
+use Rattle.coding.specs.Words.{if_then_else_, ok}
 use Rattle.number.specs.Cutting.{windowOf}
 use Rattle.number.specs.Expanding.{nearestTo}
 use Rattle.number.specs.Ends.{SoFar, none, at, baseOf, expectedOf, largerOf, Packet, done, acknowledgeBy, readBy, acceptBy}
-use Rattle.number.specs.Line.{World, freshWorld, Step, Reach, Near, Delivery}
-use Rattle.number.specs.Line.Step.{sends, accepts, acknowledges, hears}
+use Rattle.number.specs.Line.{World, freshWorld, LineStep, Reach, Near, Delivery}
+use Rattle.number.specs.Line.LineStep.{sends, accepts, acknowledges, hears}
 use Rattle.number.specs.Line.Reach.{start, next}
 use Rattle.number.proofs.Windows.{le?, Window, window-made, Fit}
 use Rattle.number.proofs.Cuts.{CutIs, cut-kept}
@@ -59,7 +60,7 @@ inv-start =
       acks = λ m. absurd (List·Memᴰ·not-nil m);
     }
 
-inv-step : {w v : World} → Inv w → Step w v → Inv v
+inv-step : {w v : World} → Inv w → LineStep w v → Inv v
 inv-step {w} i (sends {p} {e} q) =
     let x = send-is (w .sender) q in
     let n : ℕ = w .sender .next in
@@ -126,13 +127,41 @@ pub inv : {w : World} → Reach w → Inv w
 inv start = inv-start
 inv (next r s) = inv-step (inv r) s
 
+-- ---- the receiver's largest is the largest of the numbers that it accepted; it has none exactly where none was accepted
+
+abbrev pub LargestIn : SoFar → List ℕ → Type 0
+LargestIn none l = l ≡ []
+LargestIn (at m) l = List·Memᴰ m l × ((n : ℕ) → List·Memᴰ n l → n ≤ m)
+
+not-in : {n : ℕ} {l : List ℕ} → l ≡ [] → List·Memᴰ n l → ⊥
+not-in e m = List·Memᴰ·not-nil (rw e at m)
+
+larger-in : (s : SoFar) (n : ℕ) (l : List ℕ) → LargestIn s l → LargestIn (largerOf s n) (n ∷ l)
+unfolding largerOf if_then_else_
+larger-in none n l e = (List·Memᴰ·head refl, λ i x. ⊎-elim (λ y. omega (arith, y)) (λ y. absurd (not-in e y)) (List·Memᴰ·cases-cons x))
+larger-in (at m) n l (has, all) = ⊎-elim stays grows (le? n m)
+  where
+    stays : n ≤ m → LargestIn (largerOf (at m) n) (n ∷ l)
+    stays p = rw (le-ltb m n p) (List·Memᴰ·tail has, λ i x. ⊎-elim (λ y. omega (arith, y)) (λ y. all i y) (List·Memᴰ·cases-cons x))
+
+    grows : m < n → LargestIn (largerOf (at m) n) (n ∷ l)
+    grows p = rw (lt-ltb m n p) (List·Memᴰ·head refl, λ i x. ⊎-elim (λ y. omega (arith, y)) (λ y. omega (arith, all i y)) (List·Memᴰ·cases-cons x))
+
+pub largest-in : {w : World} → Reach w → LargestIn (w .receiver .largest) (w .accepted)
+largest-in start = refl
+largest-in (next r (sends q)) = largest-in r
+largest-in (next {w} r (accepts {p} {e} m read q)) =
+    rw (accept-is (w .receiver) (p .number) q .end) (larger-in (w .receiver .largest) (p .number) (w .accepted) (largest-in r))
+largest-in (next r (acknowledges m)) = largest-in r
+largest-in (next r (hears m q)) = largest-in r
+
 -- ---- the theorem
 
 -- near, as an order on what the receiver expects
-near-is : (l : SoFar) (n k : ℕ) → 128 ≤ 2 ^ (8 * k - 1) → Near l n k ↔ (expectedOf l < n + 2 ^ (8 * k - 1))
+near-is : (s : SoFar) (l : List ℕ) → LargestIn s l → (n k : ℕ) → 128 ≤ 2 ^ (8 * k - 1) → Near l n k ↔ (expectedOf s < n + 2 ^ (8 * k - 1))
 unfolding Near expectedOf
-near-is none n k h = (λ x. omega arith, λ x. tt)
-near-is (at m) n k h = (λ x. omega arith, λ x. omega arith)
+near-is none l e n k h = (λ x. omega arith, λ x m i. absurd (not-in e i))
+near-is (at m) l (has, all) n k h = (λ x. omega (arith, x m has), λ x i y. omega (arith, all i y))
 
 -- what is read of a packet that was sent: it is never refused
 pub reads : {w : World} → Reach w → {p : Packet} → List·Memᴰ p (w .sent)
@@ -144,8 +173,10 @@ reads {w} r {p} m =
     let e : ℕ = expectedOf (w .receiver .largest) in
     ap (λ (v : ℕ). ok (nearestTo (windowOf (p .carries .0)) v e)) (sym (c .is .value)) ∙ expanded-in (p .carries) e (cut-kept (c .is)) (i .top)
 
-pub delivery : Delivery
-delivery w r p m = (forth, back)
+-- by what the receiver expects
+pub delivered : {w : World} → Reach w → {p : Packet} → List·Memᴰ p (w .sent)
+    → (readBy (w .receiver) (p .carries) ≡ ok (p .number)) ↔ (expectedOf (w .receiver .largest) < p .number + 2 ^ (8 * p .carries .0 - 1))
+delivered {w} r {p} m = (forth, back)
   where
     n : ℕ
     n = p .number
@@ -174,19 +205,25 @@ delivery w r p m = (forth, back)
     pos : 0 < h
     pos = omega (arith, win)
 
-    forth : readBy (w .receiver) (p .carries) ≡ ok n → Near (w .receiver .largest) n k
+    forth : readBy (w .receiver) (p .carries) ≡ ok n → e < n + h
     forth q =
         let same : ok (nearestTo (windowOf k) (n % windowOf k) e) ≡ ok n = reads r m ∙ q in
         let is : nearestTo (windowOf k) (n % windowOf k) e ≡ n = cc in
         ⊎-elim
         (λ far. absurd (overtaken (windowOf k) h n e (win .twice) pos far is))
-        (near-is (w .receiver .largest) n k (win .least) .1)
+        (λ near. near)
         (le? (n + h) e)
 
-    back : Near (w .receiver .largest) n k → readBy (w .receiver) (p .carries) ≡ ok n
+    back : e < n + h → readBy (w .receiver) (p .carries) ≡ ok n
     back q =
         sym (reads r m)
-        ∙ ap (λ (x : ℕ). ok x) (read-back (windowOf k) h n e (win .twice) pos up (near-is (w .receiver .largest) n k (win .least) .0 q))
+        ∙ ap (λ (x : ℕ). ok x) (read-back (windowOf k) h n e (win .twice) pos up q)
+
+pub delivery : Delivery
+delivery w r p m =
+    let f = inv r .sent m .is .fit in
+    let near = near-is (w .receiver .largest) (w .accepted) (largest-in r) (p .number) (p .carries .0) (window-made (p .carries .0) (f .from) (f .high) .least) in
+    (λ q. near .1 (delivered r m .0 q), λ q. delivered r m .1 (near .0 q))
 
 -- ---- the sender counts 0, 1, 2, and so on: the latest packet has the number of those before it
 

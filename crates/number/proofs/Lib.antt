@@ -1,9 +1,10 @@
 -- In the order in which they rest on each other.
 pub mod Windows
+pub mod Firsts
 pub mod Cuts
 pub mod Readings
 pub mod Calls
 pub mod Delivery
-pub mod Runs
+pub mod BothWays
 pub mod Inverse
 pub mod Onces

@@ -1,4 +1,4 @@
--- The reading of a cut number, over any even window; the Rust's rule beside A.3; the cases of a reading. Assumes nothing.
+-- The reading of a cut number, over any even window; the Rust's rule beside A.3; the cases of a reading.
 use Prim.Native.Nat.{ℕ, suc, _+_, _-_, _*_, _/_, _%_, _^_, _≤_, _<_}
 use mathlib.Core.Path.{_≡_, refl, sym, ap, _∙_}
 use mathlib.Core.Bool.{Bool, true, false}

@@ -1,4 +1,4 @@
--- Laws of the four windows, over the width. Assumes nothing.
+-- Laws of the four windows, over the width.
 use Prim.Native.Nat.{ℕ, zero, suc, _+_, _-_, _*_, _^_, _≤_, _<_}
 use mathlib.Core.Path.{_≡_, refl, ap, _∙_}
 use mathlib.Core.Bool.{Bool, true, false}

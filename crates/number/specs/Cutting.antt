@@ -41,19 +41,28 @@ cutMade n acked =
     cutTo n (bytesFor (2 * (n - acked)))
 
 -- 17.2, 17.3.1: the two low bits of byte 0 are the length less one
-unfoldable pub cutTag : CutNumber → Answer ℕ
-cutTag c = if isCut c then ok (c .0 - 1) else no 14
+abbrev pub lengthBits : CutNumber → ℕ
+lengthBits c = c .0 - 1
 
-unfoldable pub tagLength : ℕ → ℕ
+unfoldable pub cutTag : CutNumber → Answer ℕ
+cutTag c = if isCut c then ok (lengthBits c) else no 14
+
+abbrev pub tagLength : ℕ → ℕ
 tagLength first = 1 + first % 4
 
--- what is written, and what a put stores
+-- its bytes, in network order; what is written, and what a put stores
+abbrev pub cutBytes : CutNumber → List ℕ
+cutBytes c = bytesBE (c .0) (c .1)
+
 unfoldable pub cutOut : CutNumber → Answer (List ℕ)
-cutOut c = if isCut c then ok (bytesBE (c .0) (c .1)) else no 14
+cutOut c = if isCut c then ok (cutBytes c) else no 14
 
 unfoldable pub cutPut : CutNumber → List ℕ
-cutPut c = if isCut c then bytesBE (c .0) (c .1) else []
+cutPut c = if isCut c then cutBytes c else []
 
 -- the cut number of the first k bytes
+abbrev pub firstCut : ℕ → List ℕ → CutNumber
+firstCut k bs = cut k (be 0 (take k bs))
+
 unfoldable pub cutRead : ℕ → List ℕ → Answer CutNumber
-cutRead k bs = if ltb k 1 then no 14 else if ltb 4 k then no 14 else ok (cut k (be 0 (take k bs)))
+cutRead k bs = if ltb k 1 then no 14 else if ltb 4 k then no 14 else ok (firstCut k bs)

@@ -5,7 +5,7 @@ use mathlib.Core.Path.{_≡_}
 use mathlib.Core.List.{List, [], _∷_, List·Memᴰ}
 use mathlib.Core.Logic.{_↔_}
 use Rattle.coding.specs.Words.{ok}
-use Rattle.number.specs.Ends.{SoFar, none, at, Ends, freshEnds, Packet, done, sendBy, acknowledgeBy, readBy, acceptBy}
+use Rattle.number.specs.Ends.{Ends, freshEnds, Packet, done, sendBy, acknowledgeBy, readBy, acceptBy}
 
 pub record World : Type 0 where
   pub sender : Ends
@@ -21,28 +21,27 @@ abbrev pub freshWorld : World
 freshWorld = record { sender = freshEnds; receiver = freshEnds; sent = []; accepted = []; acks = [] }
 
 -- one step. A refused call is none: it leaves its ends as they were
-pub data Step (w : World) : World → Type 0 where
+pub data LineStep (w : World) : World → Type 0 where
   -- the sender sends its next number
   sends : {p : Packet} {e : Ends} → sendBy (w .sender) ≡ done p e →
-      Step w (record { sender = e; receiver = w .receiver; sent = p ∷ w .sent; accepted = w .accepted; acks = w .acks })
+      LineStep w (record { sender = e; receiver = w .receiver; sent = p ∷ w .sent; accepted = w .accepted; acks = w .acks })
   -- a packet that was sent is delivered, read as it was sent, and accepted
   accepts : {p : Packet} {e : Ends} → List·Memᴰ p (w .sent) → readBy (w .receiver) (p .carries) ≡ ok (p .number) → acceptBy (w .receiver) (p .number) ≡ done tt e →
-      Step w (record { sender = w .sender; receiver = e; sent = w .sent; accepted = p .number ∷ w .accepted; acks = w .acks })
+      LineStep w (record { sender = w .sender; receiver = e; sent = w .sent; accepted = p .number ∷ w .accepted; acks = w .acks })
   -- the receiver acknowledges a number that it accepted
   acknowledges : {n : ℕ} → List·Memᴰ n (w .accepted) →
-      Step w (record { sender = w .sender; receiver = w .receiver; sent = w .sent; accepted = w .accepted; acks = n ∷ w .acks })
+      LineStep w (record { sender = w .sender; receiver = w .receiver; sent = w .sent; accepted = w .accepted; acks = n ∷ w .acks })
   -- an acknowledgement that was sent is delivered
   hears : {n : ℕ} {e : Ends} → List·Memᴰ n (w .acks) → acknowledgeBy (w .sender) n ≡ done tt e →
-      Step w (record { sender = e; receiver = w .receiver; sent = w .sent; accepted = w .accepted; acks = w .acks })
+      LineStep w (record { sender = e; receiver = w .receiver; sent = w .sent; accepted = w .accepted; acks = w .acks })
 
 pub data Reach : World → Type 0 where
   start : Reach freshWorld
-  next : {w v : World} → Reach w → Step w v → Reach v
+  next : {w v : World} → Reach w → LineStep w v → Reach v
 
--- the largest accepted number is at most 2^(8k-1) - 2 above n, or nothing is accepted yet
-unfoldable pub Near : SoFar → ℕ → ℕ → Type 0
-Near none n k = Unit
-Near (at m) n k = m ≤ n + (2 ^ (8 * k - 1) - 2)
+-- every accepted number, and so the largest, is at most 2^(8k-1) - 2 above n; where nothing is accepted yet, this asks nothing
+unfoldable pub Near : List ℕ → ℕ → ℕ → Type 0
+Near accepted n k = (m : ℕ) → List·Memᴰ m accepted → m ≤ n + (2 ^ (8 * k - 1) - 2)
 
 -- "A fresh sender and receiver in one number space, over a line that loses, repeats and reorders packets and acknowledgements and
 -- invents none; the sender counts 0, 1, 2 and cuts by 01's rule; the receiver accepts no packet it misread and acknowledges only
@@ -51,4 +50,4 @@ Near (at m) n k = m ≤ n + (2 ^ (8 * k - 1) - 2)
 abbrev pub Delivery : Type 0
 Delivery =
     (w : World) → Reach w → (p : Packet) → List·Memᴰ p (w .sent) →
-    (readBy (w .receiver) (p .carries) ≡ ok (p .number)) ↔ Near (w .receiver .largest) (p .number) (p .carries .0)
+    (readBy (w .receiver) (p .carries) ≡ ok (p .number)) ↔ Near (w .accepted) (p .number) (p .carries .0)

@@ -11,9 +11,8 @@ pub use ends::SpaceAnswer;
 use shared::CutNumber;
 use shared::FullNumber;
 ghost use mathlib.Core.Path.{_≡_};
-ghost use Prim.Native.Nat.{_+_, _*_, _%_, _^_, _≤_, _<_};
-ghost use lib.ListN.{length, take};
-ghost use Rattle.coding.specs.Bytes.{be, bytesBE};
+ghost use Prim.Native.Nat.{_^_, _≤_, _<_};
+ghost use Rattle.coding.specs.Bytes.{bytesBE};
 ghost use Rattle.coding.specs.Said.{wroteOf};
 ghost use Rattle.coding.specs.Writing.{Written, Put};
 ghost use Rattle.number.specs.Cutting.{windowOf, isCut, bytesFor, cutMade, cutTag, tagLength, cutOut, cutPut, cutRead};
@@ -104,28 +103,21 @@ pub fn len(c: CutNumber) -> usize
     c.0
 }
 
-// The bytes of x, most significant first.
-fn be_bytes(x: u32) -> [u8; 4]
-    ensures { λ r. ⌜ r ≡ bytesBE 4 x ⌝ }
-{
-    [
-        (x / 0x100_0000 % 256) as u8,
-        (x / 0x1_0000 % 256) as u8,
-        (x / 0x100 % 256) as u8,
-        (x / 1 % 256) as u8,
-    ]
-}
-
-// Puts the value's bytes at a place; a cut number outside its rule has none.
+// Puts the value's bytes at a place, with a store for each length; a cut number outside its rule has none.
 pub fn put(c: CutNumber, buf: &mut [u8], at: usize) -> usize
     ensures { λ r. ⌜ Put (cutPut c) (now (buf .entry)) at r (now (buf .exit)) ⌝ }
 {
     if !is_cut(c) {
         return at;
     }
-    let start = 4 - c.0;
-    let bytes = be_bytes(c.1);
-    coding::put_slice(buf, at, &bytes[start..])
+    let k = c.0;
+    let x = c.1 as u64;
+    match k {
+        1 => coding::put_num(buf, at, 1, x),
+        2 => coding::put_num(buf, at, 2, x),
+        3 => coding::put_num(buf, at, 3, x),
+        _ => coding::put_num(buf, at, 4, x),
+    }
 }
 
 // Writes the value's bytes from byte 0 of buf on, and answers their number.
@@ -141,38 +133,17 @@ pub fn encode(c: CutNumber, buf: &mut [u8]) -> Wrote
     Wrote::Len(put(c, buf, 0))
 }
 
-fn wide(b: u8) -> u32
-    ensures { λ r. ⌜ (r ≡ b) × (r < 256) ⌝ }
+// The cut number of the first `len` of a word's four bytes.
+pub fn decode(len: usize, word: u32) -> CutMade
+    ensures { λ r. ⌜ madeOf r ≡ cutRead len (bytesBE 4 word) ⌝ }
 {
-    b as u32
-}
-
-// The number that the first n bytes make.
-fn first_bytes(s: &[u8], n: usize) -> u32
-    requires { ⌜ (n ≤ 4) × (n ≤ length (now s)) ⌝ }
-    ensures { λ r. ⌜ r ≡ be 0 (take n (now (s .entry))) ⌝ }
-{
-    let mut v: u32 = 0;
-    let mut i: usize = 0;
-    while i < n {
-        v = v * 256 + wide(s[i]);
-        i += 1;
+    match len {
+        1 => CutMade::Cut(CutNumber(1, word / 0x100_0000)),
+        2 => CutMade::Cut(CutNumber(2, word / 0x1_0000)),
+        3 => CutMade::Cut(CutNumber(3, word / 0x100)),
+        4 => CutMade::Cut(CutNumber(4, word)),
+        _ => CutMade::Refused(Refusal::Argument),
     }
-    v
-}
-
-// The cut number of the first `len` of four bytes.
-pub fn decode(len: usize, bytes: &[u8; 4]) -> CutMade
-    ensures { λ r. ⌜ madeOf r ≡ cutRead len (now (bytes .entry)) ⌝ }
-{
-    if len < 1 {
-        return CutMade::Refused(Refusal::Argument);
-    }
-    if 4 < len {
-        return CutMade::Refused(Refusal::Argument);
-    }
-    let v = first_bytes(bytes, len);
-    CutMade::Cut(CutNumber(len, v))
 }
 
 // The number's length, from byte 0.

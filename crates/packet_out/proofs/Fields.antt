@@ -1,4 +1,4 @@
--- The fields of a written header, each read back where it stands. Assumes nothing.
+-- The fields of a written header, each read back where it stands.
 use Prim.Native.Nat.{ℕ, _+_, _%_, _^_, _≤_, _<_}
 use mathlib.Core.Path.{_≡_, refl, sym, _∙_}
 use mathlib.Core.List.{List, [], _∷_, _++_, append-assoc}

@@ -1,4 +1,4 @@
--- Each map from the code's answers to the paper's words has an inverse: what is said settles the answer. Assumes nothing.
+-- Each map from the code's answers to the paper's words has an inverse: what is said settles the answer.
 use mathlib.Core.Path.{_≡_, refl, ap}
 use mathlib.Core.Option.{Option, none, some}
 use Prim.Native.Nat.{ℕ}
@@ -9,7 +9,7 @@ use Rattle.shared.specs.declared.kinds.CutNumber.{CutNumber}
 use Rattle.protect.specs.declared.NumberLen.{NumberLen}
 use Rattle.protect.specs.declared.NumberLen.the-variants as number
 use Rattle.packet_out.specs.Encoding.{Partial}
-use Rattle.packet_out.specs.Said.{cutOf, partOf, encodedOf, setOf}
+use Rattle.packet_out.specs.Said.{cutOf, partialSaid, encodedOf, setOf}
 use Rattle.packet_out.specs.declared.header.HeaderNumber.{HeaderNumber}
 use Rattle.packet_out.specs.declared.header.HeaderNumber.the-variants as num
 use Rattle.packet_out.specs.declared.PartialEncode.{PartialEncode}
@@ -37,11 +37,11 @@ lenBy (some k) = number.Bytes k
 abbrev partBy : Partial → PartialEncode
 partBy p = record { «header_len» = p .headerLen; number = lenBy (p .number); «has_length» = p .hasLength }
 
-part-back : (p : PartialEncode) → partBy (partOf p) ≡ p
-unfolding partOf
+part-back : (p : PartialEncode) → partBy (partialSaid p) ≡ p
+unfolding partialSaid
 part-back p = go (p .number)
   where
-    go : (n : NumberLen) → partBy (partOf (record { «header_len» = p .«header_len»; number = n; «has_length» = p .«has_length» }))
+    go : (n : NumberLen) → partBy (partialSaid (record { «header_len» = p .«header_len»; number = n; «has_length» = p .«has_length» }))
         ≡ record { «header_len» = p .«header_len»; number = n; «has_length» = p .«has_length» }
     go (number.Bytes k) = refl
     go number.Nothing = refl

@@ -1,5 +1,5 @@
--- The cases of what is written, each from the tests that lead to it. Assumes nothing.
-use Prim.Native.Nat.{ℕ, _+_, _-_, _/_, _%_, _^_, _≤_, _<_}
+-- The cases of what is written, each from the tests that lead to it.
+use Prim.Native.Nat.{ℕ, _+_, _-_, _^_, _≤_, _<_}
 use mathlib.Core.Path.{_≡_, refl, sym, ap, _∙_}
 use mathlib.Core.List.{List, _∷_, _++_}
 use mathlib.Core.Bool.{Bool, true, false, _&&_}
@@ -10,7 +10,7 @@ use lib.Dec.{leb}
 use borrow.Author.Tests.{le-leb, lt-leb, leb-true, leb-false, ltb-true, lt-ltb, le-ltb}
 use Rattle.coding.specs.Words.{if_then_else_, Answer, no, ok}
 use Rattle.coding.specs.Refusals.{numberOf}
-use Rattle.coding.specs.Bytes.{bytesBE, splice}
+use Rattle.coding.specs.Bytes.{splice}
 use Rattle.coding.specs.Varint.{varSize}
 use Rattle.coding.specs.Said.{sizedOf}
 use Rattle.coding.specs.declared.varint.Sized.{Sized}
@@ -30,7 +30,7 @@ use Rattle.number.specs.declared.Tagged.the-variants as tagged
 use Rattle.number.proofs.Windows.{cut-rule}
 use Rattle.packet.specs.TypeBits.{bitsOf}
 use Rattle.protect.specs.Tests.{numberBytes, numberFits, leastHeader, headerTests}
-use Rattle.packet_out.specs.Encoding.{Plain, Shape, namesBytes, tokenBytes, lengthBytes, numberField, shapeBytes, shapeBy, headerBy, numberKeeps, keepRules, inHeader, placeholder, numberIn, numberLenIn, partialOf, EncodesAs}
+use Rattle.packet_out.specs.Encoding.{Plain, Shape, namesBytes, tokenBytes, lengthBytes, numberField, shapeBytes, shapeBy, writtenHeader, numberKeeps, keepRules, inHeader, placeholder, plainNumber, numberLenIn, partialOf, EncodesAs}
 use Rattle.packet_out.specs.Before.{roomy, headerBefore, lengthFits}
 use Rattle.packet_out.specs.Length.{lengthField, lengthInto, lengthSet}
 
@@ -52,6 +52,12 @@ module _ (r : Tagged) (c : CutNumber) (e : tagOf r ≡ cutTag c) where
       go : (b : Bool) → isCut c ≡ b → no (numberOf why) ≡ (if b then ok (c .0 - 1) else no 14) → isCut c ≡ false
       go true s h = let z : _≡_ {A = ℕ} 0 1 = cc in absurd (omega arith)
       go false s h = s
+
+  pub tag-never : isCut c ≡ true → (why : Refusal) → r ≡ tagged.Refused why → ⊥
+  tag-never k why q =
+      let f = tag-not why q in
+      let z : _≡_ {A = ℕ} 0 1 = cc in
+      omega arith
 
 -- ---- the rules that are kept
 
@@ -102,14 +108,6 @@ pub length-token : (token : List ℕ) → length (tokenBytes true token) ≡ var
 unfolding tokenBytes if_then_else_
 length-token token = simp (length-append, length-var)
 
--- the two low bytes are those of what is below 65,536
-low-two : (x : ℕ) → bytesBE 2 x ≡ bytesBE 2 (x % 0x10000)
-unfolding bytesBE
-low-two x =
-    let a : x / 256 ^ 1 % 256 ≡ x % 0x10000 / 256 ^ 1 % 256 = omega arith in
-    let b : x / 256 ^ 0 % 256 ≡ x % 0x10000 / 256 ^ 0 % 256 = omega arith in
-    rw (a, b)
-
 -- a number that keeps its rule has at most four bytes
 pub length-number : (c : CutNumber) → length (numberField (some c)) ≡ c .0
 unfolding numberField
@@ -117,26 +115,6 @@ length-number c = length-bytesBE (c .0) (c .1)
 
 pub cut-short : (c : CutNumber) → isCut c ≡ true → (1 ≤ c .0) × (c .0 ≤ 4)
 cut-short c e = let w = cut-rule c e .window in (w .low, w .high)
-
--- its bytes as they are put
-module _ (c : CutNumber) where
-  pub number-one : c .0 ≡ 1 → numberField (some c) ≡ bytesBE 1 (c .1 % 0x100)
-  unfolding numberField bytesBE
-  number-one e = let x : c .1 / 256 ^ 0 % 256 ≡ c .1 % 0x100 / 256 ^ 0 % 256 = omega arith in rw (e, x)
-
-  pub number-two : c .0 ≡ 2 → numberField (some c) ≡ bytesBE 2 (c .1 % 0x10000)
-  unfolding numberField
-  number-two e = rw e (low-two (c .1))
-
-  pub number-three : c .0 ≡ 3 → numberField (some c) ≡ bytesBE 1 (c .1 / 0x10000 % 0x100) ++ bytesBE 2 (c .1 % 0x10000)
-  unfolding numberField bytesBE
-  number-three e =
-      let x : c .1 / 256 ^ 2 % 256 ≡ c .1 / 0x10000 % 0x100 / 256 ^ 0 % 256 = omega arith in
-      rw e (ap (λ (z : ℕ). z ∷ bytesBE 2 (c .1)) x ∙ ap (λ (l : List ℕ). (c .1 / 0x10000 % 0x100 / 256 ^ 0 % 256) ∷ l) (low-two (c .1)))
-
-  pub number-four : c .0 ≡ 4 → numberField (some c) ≡ bytesBE 4 (c .1)
-  unfolding numberField
-  number-four e = rw e
 
 -- a number's length, by its kind
 pub length-some : (number : Option CutNumber) → length (numberField number) ≡ numberBytes (numberLenIn number)
@@ -213,14 +191,14 @@ module _ (field : List ℕ) (shape : Shape) (number : Option CutNumber) (dst src
 
 -- ---- what is written of a kind, by its shape
 
-module _ (field : List ℕ) (p : Plain) (dst src : ConnectionId) (token : List ℕ) (n : ℕ) (number : Option CutNumber) (en : number ≡ numberIn p) where
+module _ (field : List ℕ) (p : Plain) (dst src : ConnectionId) (token : List ℕ) (n : ℕ) (number : Option CutNumber) (en : number ≡ plainNumber p) where
   pub out-rules : keepRules number dst src ≡ false → headerBefore field p dst src token n ≡ no 14
   unfolding headerBefore roomy if_then_else_
   out-rules k = rw (← en, k)
 
   module _ (k : keepRules number dst src ≡ true) (shape : Shape) (es : shape ≡ shapeBy bitsOf p) where
-    same : (x : List ℕ) → shapeBytes x shape number dst src token ≡ headerBy bitsOf x p dst src token
-    unfolding headerBy
+    same : (x : List ℕ) → shapeBytes x shape number dst src token ≡ writtenHeader bitsOf x p dst src token
+    unfolding writtenHeader
     same x = rw (es, en)
 
     pub out-long : 65527 < length (shapeBytes placeholder shape number dst src token) + n → headerBefore field p dst src token n ≡ no 14
@@ -251,7 +229,7 @@ module _ (p : Plain) {w : Answer (List ℕ)} {old new : List ℕ} where
   unfolding partialOf
   encodes-no s = record { says = ap (partialOf p) (s .says); leaves = s .leaves }
 
-  pub encodes-ok : {n : ℕ} {l : Option ℕ} {b : Bool} → l ≡ numberLenIn (numberIn p) → b ≡ shapeBy bitsOf p .hasLength → Written w old (ok n) new
+  pub encodes-ok : {n : ℕ} {l : Option ℕ} {b : Bool} → l ≡ numberLenIn (plainNumber p) → b ≡ shapeBy bitsOf p .hasLength → Written w old (ok n) new
       → EncodesAs p w old (ok (record { headerLen = n; number = l; hasLength = b })) new
   unfolding partialOf
   encodes-ok el eb s = record { says = rw (el, eb) (ap (partialOf p) (s .says)); leaves = s .leaves }

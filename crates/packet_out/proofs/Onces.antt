@@ -1,4 +1,4 @@
--- Only one answer, and only one content of a lent buffer, meets the contract of each public function. Assumes nothing.
+-- Only one answer, and only one content of a lent buffer, meets the contract of each public function.
 use mathlib.Core.Path.{_∙_, sym}
 use mathlib.Core.List.{List}
 use Prim.Native.Nat.{ℕ}
@@ -13,8 +13,6 @@ use Rattle.packet_out.proofs.encode as encode
 use Rattle.packet_out.proofs.encode.Reads as encode-reads
 use Rattle.packet_out.proofs.encode_for as encode-for
 use Rattle.packet_out.proofs.encode_for.Reads as encode-for-reads
-use Rattle.packet_out.proofs.bytes_of as bytes-of
-use Rattle.packet_out.proofs.bytes_of.Reads as bytes-of-reads
 use Rattle.packet_out.proofs.set_length as set-length
 use Rattle.packet_out.proofs.set_length.Reads as set-length-reads
 
@@ -29,10 +27,6 @@ encode-once κs a x y s t p q i = (encoded-one x y _ (p .says) (q .says) i, (p .
 encode-for-once : Once {B = Encoded × List ℕ} encode-for.ended encode-for-reads.Post (λ κs x s. (x, now (s .1 .1 .1 .1 .1 .0)))
 unfolding Once
 encode-for-once κs a x y s t p q i = (encoded-one x y _ (p .says) (q .says) i, (p .leaves ∙ sym (q .leaves)) i)
-
-bytes-of-once : Once bytes-of.ended bytes-of-reads.Post (λ κs x s. x)
-unfolding Once
-bytes-of-once κs a x y s t p q = p ∙ sym q
 
 set-length-once : Once {B = LengthSet × List ℕ} set-length.ended set-length-reads.Post (λ κs x s. (x, now (s .1 .1 .1 .0)))
 unfolding Once

@@ -8,6 +8,7 @@ use lib.ListN.{length}
 use Rattle.coding.specs.Words.{if_then_else_}
 use Rattle.coding.specs.Varint.{varSize}
 use Rattle.coding.specs.declared.Place.{Place}
+use Rattle.shared.specs.FirstByte.{longHeaderForm, fixedBit}
 use Rattle.shared.specs.Cid.{cidOf, cidBytes}
 use Rattle.shared.specs.declared.cid.ConnectionId.{ConnectionId}
 use Rattle.packet.specs.Header.{Header, Outcome, headed, listed}
@@ -24,7 +25,7 @@ kindRead (zeroRtt c v) token len = read.zeroRtt len
 kindRead (handshake c v) token len = read.handshake len
 kindRead (retry v) token len = read.retry
 kindRead (short spin phase c) token len = read.short spin
-kindRead (negotiate random) token len = read.negotiate (random % 0x80)
+kindRead (negotiate random) token len = read.negotiate (random % longHeaderForm)
 
 unfoldable pub versionRead : Plain → ℕ
 versionRead (initial c v) = v
@@ -59,14 +60,14 @@ readAs p dst src token len m =
     headed (cidOf (cidBytes dst)) (cidOf (srcRead p src)) (versionRead p) (kindRead p (tokenPlace p dst src token) len) (endRead p dst src token m)
 
 -- it can be read where its version is listed and not 0; a short one with its connection id's length; Version Negotiation
--- with grease, or with 0x40 in its bits
+-- with grease, or with the fixed bit set
 unfoldable pub Readable : Plain → ConnectionId → ℕ → List ℕ → Bool → Type 0
 Readable (initial c v) dst local versions grease = (listed versions v ≡ true) × (v ≡ 0 → ⊥)
 Readable (zeroRtt c v) dst local versions grease = (listed versions v ≡ true) × (v ≡ 0 → ⊥)
 Readable (handshake c v) dst local versions grease = (listed versions v ≡ true) × (v ≡ 0 → ⊥)
 Readable (retry v) dst local versions grease = (listed versions v ≡ true) × (v ≡ 0 → ⊥)
 Readable (short spin phase c) dst local versions grease = local ≡ dst .len
-Readable (negotiate random) dst local versions grease = (grease ≡ true) ⊎ (random / 0x40 % 2 ≡ 1)
+Readable (negotiate random) dst local versions grease = (grease ≡ true) ⊎ (random / fixedBit % 2 ≡ 1)
 
 -- what the types say of the arguments: a version has 32 bits, a connection id an array of 20
 pub record Typed (p : Plain) (dst src : ConnectionId) : Type 0 where

@@ -1,19 +1,20 @@
 -- A packet's header as it is written: RFC 9000, 17.2 and 17.3; Version Negotiation: 17.2.1.
-use Prim.Native.Nat.{ℕ, _+_, _-_, _*_, _%_}
+use Prim.Native.Nat.{ℕ, _+_, _*_, _%_}
 use mathlib.Core.Path.{_≡_}
 use mathlib.Core.List.{List, [], _∷_, _++_}
 use mathlib.Core.Bool.{Bool, true, false, _&&_}
 use mathlib.Core.Option.{Option, none, some}
 use lib.ListN.{length}
 use lib.Dec.{leb}
-use Rattle.coding.specs.Words.{if_then_else_, Answer, no, ok}
+use Rattle.coding.specs.Words.{if_then_else_, Answer, no, ok, maxDatagram}
 use Rattle.coding.specs.Bytes.{bytesBE}
 use Rattle.coding.specs.Varint.{varBytes}
 use Rattle.coding.specs.Writing.{inRoom, lengthOf, intoBuffer}
+use Rattle.shared.specs.FirstByte.{longHeaderForm, fixedBit, spinBit, keyPhaseBit}
 use Rattle.shared.specs.Cid.{cidBytes, longBytes}
 use Rattle.shared.specs.declared.cid.ConnectionId.{ConnectionId}
 use Rattle.shared.specs.declared.kinds.CutNumber.{CutNumber}
-use Rattle.number.specs.Cutting.{isCut}
+use Rattle.number.specs.Cutting.{isCut, lengthBits, cutBytes}
 use Rattle.packet.specs.TypeBits.{PacketType, bitsOf}
 use Rattle.packet.specs.TypeBits as type
 
@@ -29,29 +30,25 @@ pub data Plain : Type 0 where
   negotiate : ℕ → Plain
 
 -- the packet number, where there is one
-unfoldable pub numberIn : Plain → Option CutNumber
-numberIn (initial c v) = some c
-numberIn (zeroRtt c v) = some c
-numberIn (handshake c v) = some c
-numberIn (retry v) = none
-numberIn (short spin phase c) = some c
-numberIn (negotiate bits) = none
-
--- the two low bits of the first byte are the number's length less one
-abbrev pub lowBits : CutNumber → ℕ
-lowBits c = c .0 - 1
+unfoldable pub plainNumber : Plain → Option CutNumber
+plainNumber (initial c v) = some c
+plainNumber (zeroRtt c v) = some c
+plainNumber (handshake c v) = some c
+plainNumber (retry v) = none
+plainNumber (short spin phase c) = some c
+plainNumber (negotiate bits) = none
 
 -- a bit of the first byte
-unfoldable pub bit : Bool → ℕ → ℕ
-bit b x = if b then x else 0
+unfoldable pub bitIf : Bool → ℕ → ℕ
+bitIf b x = if b then x else 0
 
--- 17.2: the form bit and the fixed bit, the type in 0x30; the reserved bits are 0
+-- 17.2: the form bit and the fixed bit, the type in 0x30; the reserved bits are 0, and the number's length follows
 unfoldable pub longFirst : ℕ → ℕ
-longFirst bits = 0xc0 + bits * 16
+longFirst bits = longHeaderForm + fixedBit + bits * 16
 
--- 17.3.1: the fixed bit, the spin bit, the key phase; the reserved bits are 0
+-- 17.3.1: the fixed bit, the spin bit, the key phase; the reserved bits are 0, and the number's length follows
 unfoldable pub shortFirst : Bool → Bool → ℕ
-shortFirst spin phase = 0x40 + bit spin 0x20 + bit phase 0x04
+shortFirst spin phase = fixedBit + bitIf spin spinBit + bitIf phase keyPhaseBit
 
 -- what stands around the connection ids: the first byte; the version, which a short header lacks; whether there is a token,
 -- and a Length
@@ -69,12 +66,12 @@ shortShape first = record { first = first; version = none; hasToken = false; has
 
 -- by the kind, for any bits of the types
 unfoldable pub shapeBy : (PacketType → ℕ) → Plain → Shape
-shapeBy bits (initial c v) = longShape (longFirst (bits type.initial) + lowBits c) v true true
-shapeBy bits (zeroRtt c v) = longShape (longFirst (bits type.zeroRtt) + lowBits c) v false true
-shapeBy bits (handshake c v) = longShape (longFirst (bits type.handshake) + lowBits c) v false true
+shapeBy bits (initial c v) = longShape (longFirst (bits type.initial) + lengthBits c) v true true
+shapeBy bits (zeroRtt c v) = longShape (longFirst (bits type.zeroRtt) + lengthBits c) v false true
+shapeBy bits (handshake c v) = longShape (longFirst (bits type.handshake) + lengthBits c) v false true
 shapeBy bits (retry v) = longShape (longFirst (bits type.retry)) v false false
-shapeBy bits (short spin phase c) = shortShape (shortFirst spin phase + lowBits c)
-shapeBy bits (negotiate random) = longShape (0x80 + random % 0x80) 0 false false
+shapeBy bits (short spin phase c) = shortShape (shortFirst spin phase + lengthBits c)
+shapeBy bits (negotiate random) = longShape (longHeaderForm + random % longHeaderForm) 0 false false
 
 -- ---- the fields past the first byte
 
@@ -94,7 +91,7 @@ lengthBytes has field = if has then field else []
 -- 17.1: the number's bytes
 unfoldable pub numberField : Option CutNumber → List ℕ
 numberField none = []
-numberField (some c) = bytesBE (c .0) (c .1)
+numberField (some c) = cutBytes c
 
 -- ---- the header, with these bytes for its Length
 
@@ -103,15 +100,15 @@ shapeBytes field shape number dst src token =
     shape .first
     ∷ (namesBytes (shape .version) dst src ++ (tokenBytes (shape .hasToken) token ++ (lengthBytes (shape .hasLength) field ++ numberField number)))
 
-unfoldable pub headerBy : (PacketType → ℕ) → List ℕ → Plain → ConnectionId → ConnectionId → List ℕ → List ℕ
-headerBy bits field p dst src token = shapeBytes field (shapeBy bits p) (numberIn p) dst src token
+unfoldable pub writtenHeader : (PacketType → ℕ) → List ℕ → Plain → ConnectionId → ConnectionId → List ℕ → List ℕ
+writtenHeader bits field p dst src token = shapeBytes field (shapeBy bits p) (plainNumber p) dst src token
 
 -- its place is kept by two bytes of 0
 abbrev pub placeholder : List ℕ
 placeholder = bytesBE 2 0
 
 abbrev pub headerBytes : Plain → ConnectionId → ConnectionId → List ℕ → List ℕ
-headerBytes = headerBy bitsOf placeholder
+headerBytes = writtenHeader bitsOf placeholder
 
 -- ---- what encode writes and answers
 
@@ -126,12 +123,12 @@ keepRules number dst src = leb (dst .len) 20 && leb (src .len) 20 && numberKeeps
 
 -- a header has at most 65,527 bytes: past that it is 14
 unfoldable pub inHeader : {A : Type 0} → List ℕ → A → Answer A
-inHeader bs a = if leb (length bs) 65527 then ok a else no 14
+inHeader bs a = if leb (length bs) maxDatagram then ok a else no 14
 
 -- what encode writes: 14 comes before all else
 unfoldable pub headerOut : Plain → ConnectionId → ConnectionId → List ℕ → Answer (List ℕ)
 headerOut p dst src token =
-    if keepRules (numberIn p) dst src then inHeader (headerBytes p dst src token) (headerBytes p dst src token) else no 14
+    if keepRules (plainNumber p) dst src then inHeader (headerBytes p dst src token) (headerBytes p dst src token) else no 14
 
 -- the header's length, its number's length, where it has one, and whether a Length is to be set
 pub record Partial : Type 0 where
@@ -145,7 +142,7 @@ numberLenIn (some c) = some (c .0)
 
 unfoldable pub partialOf : Plain → Answer ℕ → Answer Partial
 partialOf p (no k) = no k
-partialOf p (ok n) = ok (record { headerLen = n; number = numberLenIn (numberIn p); hasLength = shapeBy bitsOf p .hasLength })
+partialOf p (ok n) = ok (record { headerLen = n; number = numberLenIn (plainNumber p); hasLength = shapeBy bitsOf p .hasLength })
 
 -- writing w for the header p into the buffer `old` says `said` and leaves `new`
 pub record EncodesAs (p : Plain) (w : Answer (List ℕ)) (old : List ℕ) (said : Answer Partial) (new : List ℕ) : Type 0 where

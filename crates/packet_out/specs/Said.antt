@@ -24,13 +24,13 @@ use Rattle.packet_out.specs.declared.LengthSet.{LengthSet}
 use Rattle.packet_out.specs.declared.LengthSet.the-variants as len
 
 -- the header of a type with a Length and no token
-unfoldable pub longOf : LongType → CutNumber → ℕ → Plain
-longOf ty.Handshake = handshake
-longOf ty.ZeroRtt = zeroRtt
+unfoldable pub writtenLong : LongType → CutNumber → ℕ → Plain
+writtenLong ty.Handshake = handshake
+writtenLong ty.ZeroRtt = zeroRtt
 
 unfoldable pub plainOf : Header → Plain
 plainOf (head.Initial number version) = initial number version
-plainOf (head.Long ty number version) = longOf ty number version
+plainOf (head.Long ty number version) = writtenLong ty number version
 plainOf (head.Retry version) = retry version
 plainOf (head.Short spin phase number) = short spin phase number
 plainOf (head.VersionNegotiate random) = negotiate random
@@ -50,11 +50,11 @@ shapeOf f = record { first = f .first; version = versionOf (f .version); hasToke
 abbrev pub formBytes : List ℕ → Form → HeaderNumber → List ℕ → List ℕ → List ℕ → List ℕ
 formBytes field f number dst src = shapeBytes field (shapeOf f) (cutOf number) (cidOf dst) (cidOf src)
 
-unfoldable pub partOf : PartialEncode → Partial
-partOf p = record { headerLen = p .«header_len»; number = numberLenOf (p .number); hasLength = p .«has_length» }
+unfoldable pub partialSaid : PartialEncode → Partial
+partialSaid p = record { headerLen = p .«header_len»; number = numberLenOf (p .number); hasLength = p .«has_length» }
 
 unfoldable pub encodedOf : Encoded → Answer Partial
-encodedOf (enc.Partial p) = ok (partOf p)
+encodedOf (enc.Partial p) = ok (partialSaid p)
 encodedOf (enc.Refused why) = no (numberOf why)
 
 unfoldable pub setOf : LengthSet → Answer (Unit {0})

@@ -1,14 +1,19 @@
 // The header that is to be written, without its connection ids and its token (packet.rs, Header; RFC 9000, 17).
+use number::Tagged;
 use packet::LongHeaderType;
 use packet::LongType;
 use shared::CutNumber;
+use shared::FIXED_BIT;
+use shared::KEY_PHASE_BIT;
+use shared::LONG_HEADER_FORM;
+use shared::SPIN_BIT;
 ghost use mathlib.Core.Path.{_≡_};
 ghost use mathlib.Core.Bool.{true};
 ghost use Prim.Native.Nat.{_≤_};
-ghost use Rattle.number.specs.Cutting.{isCut};
+ghost use Rattle.number.specs.Cutting.{isCut, lengthBits};
 ghost use Rattle.packet.specs.TypeBits.{bitsOf};
 ghost use Rattle.packet.specs.Said.{longTypeOf};
-ghost use Rattle.packet_out.specs.Encoding.{bit, lowBits, longFirst, shortFirst, numberIn, numberKeeps, longShape, shapeBy};
+ghost use Rattle.packet_out.specs.Encoding.{bitIf, longFirst, shortFirst, plainNumber, numberKeeps, longShape, shapeBy};
 ghost use Rattle.packet_out.specs.Said.{plainOf, cutOf, shapeOf};
 
 pub enum Header {
@@ -57,7 +62,7 @@ pub struct Form {
 
 impl Header {
     pub fn number(self) -> HeaderNumber
-        ensures { λ r. ⌜ cutOf r ≡ numberIn (plainOf self) ⌝ }
+        ensures { λ r. ⌜ cutOf r ≡ plainNumber (plainOf self) ⌝ }
     {
         match self {
             Header::Initial { number, version: _ } => HeaderNumber::Cut(number),
@@ -106,17 +111,17 @@ fn long_first(ty: LongHeaderType) -> u8
     ensures { λ r. ⌜ (r ≡ longFirst (bitsOf (longTypeOf ty))) × (r ≤ 0xf0) ⌝ }
 {
     match ty {
-        LongHeaderType::Initial => 0xc0,
-        LongHeaderType::Retry => 0xf0,
+        LongHeaderType::Initial => LONG_HEADER_FORM + FIXED_BIT,
+        LongHeaderType::Retry => LONG_HEADER_FORM + FIXED_BIT + 0x30,
         LongHeaderType::Standard(ty) => match ty {
-            LongType::ZeroRtt => 0xd0,
-            LongType::Handshake => 0xe0,
+            LongType::ZeroRtt => LONG_HEADER_FORM + FIXED_BIT + 0x10,
+            LongType::Handshake => LONG_HEADER_FORM + FIXED_BIT + 0x20,
         },
     }
 }
 
 fn bit_if(b: bool, x: u8) -> u8
-    ensures { λ r. ⌜ (r ≡ bit b x) × (r ≤ x) ⌝ }
+    ensures { λ r. ⌜ (r ≡ bitIf b x) × (r ≤ x) ⌝ }
 {
     if b { x } else { 0 }
 }
@@ -125,15 +130,18 @@ fn bit_if(b: bool, x: u8) -> u8
 fn short_first(spin: bool, key_phase: bool) -> u8
     ensures { λ r. ⌜ (r ≡ shortFirst spin «key_phase») × (r ≤ 0x64) ⌝ }
 {
-    0x40 + bit_if(spin, 0x20) + bit_if(key_phase, 0x04)
+    FIXED_BIT + bit_if(spin, SPIN_BIT) + bit_if(key_phase, KEY_PHASE_BIT)
 }
 
-// The number's length less one.
+// The two low bits of the first byte: the number's tag.
 fn low_bits(c: CutNumber) -> u8
     requires { ⌜ isCut c ≡ true ⌝ }
-    ensures { λ r. ⌜ (r ≡ lowBits c) × (r ≤ 3) ⌝ }
+    ensures { λ r. ⌜ (r ≡ lengthBits c) × (r ≤ 3) ⌝ }
 {
-    (c.0 - 1) as u8
+    let Tagged::Tag(tag) = number::tag(c) else {
+        return 0;
+    };
+    tag
 }
 
 // A long header's form.
@@ -150,7 +158,7 @@ fn long_form(first: u8, version: u32, has_token: bool, has_length: bool) -> Form
 
 // A header's form, by its kind.
 pub(crate) fn form_of(header: Header) -> Form
-    requires { ⌜ numberKeeps (numberIn (plainOf header)) ≡ true ⌝ }
+    requires { ⌜ numberKeeps (plainNumber (plainOf header)) ≡ true ⌝ }
     ensures { λ r. ⌜ shapeOf r ≡ shapeBy bitsOf (plainOf header) ⌝ }
 {
     match header {
@@ -179,6 +187,9 @@ pub(crate) fn form_of(header: Header) -> Form
             has_token: false,
             has_length: false,
         },
-        Header::VersionNegotiate { random } => long_form(0x80 + random % 0x80, 0, false, false),
+        Header::VersionNegotiate { random } => {
+            let first = LONG_HEADER_FORM + random % LONG_HEADER_FORM;
+            long_form(first, 0, false, false)
+        }
     }
 }

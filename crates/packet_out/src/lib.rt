@@ -18,6 +18,7 @@ ghost use mathlib.Core.Path.{_≡_};
 ghost use mathlib.Core.Bool.{true};
 ghost use Prim.Native.Nat.{_+_, _≤_};
 ghost use lib.ListN.{length};
+ghost use Rattle.coding.specs.Words.{maxDatagram};
 ghost use Rattle.coding.specs.Bytes.{bytesBE};
 ghost use Rattle.coding.specs.Said.{sizedOf};
 ghost use Rattle.coding.specs.Writing.{Put};
@@ -92,14 +93,21 @@ fn length_size(has_length: bool) -> usize
     if has_length { 2 } else { 0 }
 }
 
-// The bytes of a number; none where there is no number.
+// The length of a header's number, where it has one.
+fn number_len(number: HeaderNumber) -> NumberLen
+    ensures { λ r. ⌜ numberLenOf r ≡ numberLenIn (cutOf number) ⌝ }
+{
+    match number {
+        HeaderNumber::Cut(c) => NumberLen::Bytes(number::len(c)),
+        HeaderNumber::Nothing => NumberLen::Nothing,
+    }
+}
+
+// The bytes of a header's number; none where there is no number.
 fn number_size(number: HeaderNumber) -> usize
     ensures { λ r. ⌜ r ≡ numberBytes (numberLenIn (cutOf number)) ⌝ }
 {
-    match number {
-        HeaderNumber::Cut(c) => c.0,
-        HeaderNumber::Nothing => 0,
-    }
+    protect::bytes_of(number_len(number))
 }
 
 // The bytes of a header without its token.
@@ -134,26 +142,13 @@ fn size(form: Form, number: HeaderNumber, dst_cid: &[u8], src_cid: &[u8], token:
     Sized::Bytes(all)
 }
 
-// Puts bytes where they fit: no test is made again.
-fn put_bytes(bytes: &[u8], buf: &mut [u8], at: usize) -> usize
-    requires { ⌜ at + length (now bytes) ≤ length (now buf) ⌝ }
-    ensures { λ r. ⌜ Put (now (bytes .entry)) (now (buf .entry)) at r (now (buf .exit)) ⌝ }
-{
-    let mut i = 0;
-    while i < bytes.len() {
-        buf[at + i] = bytes[i];
-        i += 1;
-    }
-    at + i
-}
-
 // Puts a connection id behind its length.
 fn put_long(cid: &[u8], buf: &mut [u8], at: usize) -> usize
     requires { ⌜ (length (now cid) ≤ 20) × (at + length (longBytes (cidOf (now cid))) ≤ length (now buf)) ⌝ }
     ensures { λ r. ⌜ Put (longBytes (cidOf (now (cid .entry)))) (now (buf .entry)) at r (now (buf .exit)) ⌝ }
 {
     let next = coding::put_u8(buf, at, cid.len() as u8);
-    put_bytes(cid, buf, next)
+    coding::put_slice(buf, next, cid)
 }
 
 // Puts the version and both connection ids, or a short header's one.
@@ -162,7 +157,7 @@ fn put_names(version: Version, dst_cid: &[u8], src_cid: &[u8], buf: &mut [u8], a
     ensures { λ r. ⌜ Put (namesBytes (versionOf version) (cidOf (now («dst_cid» .entry))) (cidOf (now («src_cid» .entry)))) (now (buf .entry)) at r (now (buf .exit)) ⌝ }
 {
     let Version::Long(number) = version else {
-        return put_bytes(dst_cid, buf, at);
+        return coding::put_slice(buf, at, dst_cid);
     };
     let to = coding::put_u32(buf, at, number);
     let from = put_long(dst_cid, buf, to);
@@ -171,14 +166,14 @@ fn put_names(version: Version, dst_cid: &[u8], src_cid: &[u8], buf: &mut [u8], a
 
 // Puts a token behind its length.
 fn put_token(has_token: bool, token: &[u8], buf: &mut [u8], at: usize) -> usize
-    requires { ⌜ (length (tokenBytes «has_token» (now token)) ≤ 65527) × (at + length (tokenBytes «has_token» (now token)) ≤ length (now buf)) ⌝ }
+    requires { ⌜ (length (tokenBytes «has_token» (now token)) ≤ maxDatagram) × (at + length (tokenBytes «has_token» (now token)) ≤ length (now buf)) ⌝ }
     ensures { λ r. ⌜ Put (tokenBytes «has_token» (now (token .entry))) (now (buf .entry)) at r (now (buf .exit)) ⌝ }
 {
     if !has_token {
         return at;
     }
     let next = coding::write_var(buf, at, token.len() as u64);
-    put_bytes(token, buf, next)
+    coding::put_slice(buf, next, token)
 }
 
 // Puts the Length's two bytes.
@@ -191,25 +186,15 @@ fn put_length(has_length: bool, field: u16, buf: &mut [u8], at: usize) -> usize
     coding::put_u16(buf, at, field)
 }
 
-// Puts a number's bytes, with a store for each length.
+// Puts a number's bytes.
 fn put_number(number: HeaderNumber, buf: &mut [u8], at: usize) -> usize
-    requires { ⌜ (numberKeeps (cutOf number) ≡ true) × (at + length (numberField (cutOf number)) ≤ length (now buf)) ⌝ }
+    requires { ⌜ numberKeeps (cutOf number) ≡ true ⌝ }
     ensures { λ r. ⌜ Put (numberField (cutOf number)) (now (buf .entry)) at r (now (buf .exit)) ⌝ }
 {
     let HeaderNumber::Cut(c) = number else {
         return at;
     };
-    let k = c.0;
-    let x = c.1;
-    match k {
-        1 => coding::put_u8(buf, at, (x % 0x100) as u8),
-        2 => coding::put_u16(buf, at, (x % 0x1_0000) as u16),
-        3 => {
-            let next = coding::put_u8(buf, at, (x / 0x1_0000 % 0x100) as u8);
-            coding::put_u16(buf, next, (x % 0x1_0000) as u16)
-        }
-        _ => coding::put_u32(buf, at, x),
-    }
+    number::put(c, buf, at)
 }
 
 // Puts a header that fits from byte 0 on, with these two bytes for its Length.
@@ -222,7 +207,7 @@ fn put_header(
     token: &[u8],
     buf: &mut [u8],
 ) -> usize
-    requires { ⌜ (keepRules (cutOf number) (cidOf (now «dst_cid»)) (cidOf (now «src_cid»)) ≡ true) × ((length (formBytes (bytesBE 2 field) form number (now «dst_cid») (now «src_cid») (now token)) ≤ 65527) × (length (formBytes (bytesBE 2 field) form number (now «dst_cid») (now «src_cid») (now token)) ≤ length (now buf))) ⌝ }
+    requires { ⌜ (keepRules (cutOf number) (cidOf (now «dst_cid»)) (cidOf (now «src_cid»)) ≡ true) × ((length (formBytes (bytesBE 2 field) form number (now «dst_cid») (now «src_cid») (now token)) ≤ maxDatagram) × (length (formBytes (bytesBE 2 field) form number (now «dst_cid») (now «src_cid») (now token)) ≤ length (now buf))) ⌝ }
     ensures { λ r. ⌜ Put (formBytes (bytesBE 2 field) form number (now («dst_cid» .entry)) (now («src_cid» .entry)) (now (token .entry))) (now (buf .entry)) 0 r (now (buf .exit)) ⌝ }
 {
     let version = form.version;
@@ -231,15 +216,6 @@ fn put_header(
     let length = put_token(form.has_token, token, buf, start);
     let at = put_length(form.has_length, field, buf, length);
     put_number(number, buf, at)
-}
-
-fn number_len(number: HeaderNumber) -> NumberLen
-    ensures { λ r. ⌜ numberLenOf r ≡ numberLenIn (cutOf number) ⌝ }
-{
-    match number {
-        HeaderNumber::Cut(c) => NumberLen::Bytes(c.0),
-        HeaderNumber::Nothing => NumberLen::Nothing,
-    }
 }
 
 // Writes a header over lent connection ids, with these two bytes for its Length, where a payload of n bytes may follow.
@@ -348,19 +324,9 @@ pub fn encode_for(
     encode_with(header, dst_cid, src_cid, token, field, n, buf)
 }
 
-// The bytes of a header's number.
-pub fn bytes_of(number: NumberLen) -> usize
-    ensures { λ r. ⌜ r ≡ numberBytes (numberLenOf number) ⌝ }
-{
-    match number {
-        NumberLen::Bytes(k) => k,
-        NumberLen::Nothing => 0,
-    }
-}
-
 // Stores the Length before a number of k bytes.
 fn length_into(header_len: usize, k: usize, packet: &mut [u8]) -> LengthSet
-    requires { ⌜ (k + 3 ≤ «header_len») × («header_len» ≤ length (now packet)) × (length (now packet) ≤ 65527) ⌝ }
+    requires { ⌜ (k + 3 ≤ «header_len») × («header_len» ≤ length (now packet)) × (length (now packet) ≤ maxDatagram) ⌝ }
     ensures { λ r. ⌜ PutsLength «header_len» k (now (packet .entry)) (setOf r) (now (packet .exit)) ⌝ }
 {
     let len = packet.len() - header_len + k;
@@ -386,5 +352,5 @@ pub fn set_length(
     if !has_length {
         return LengthSet::Done;
     }
-    length_into(header_len, bytes_of(number), packet)
+    length_into(header_len, protect::bytes_of(number), packet)
 }

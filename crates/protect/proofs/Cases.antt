@@ -1,31 +1,38 @@
--- The cases of the sample's place, finish and the mask step, each from the tests that lead to it. Assumes nothing.
-use Prim.Native.Nat.{ℕ, zero, suc, _+_, _-_, _/_, _%_, _^_, _<_, _≤_}
+-- The cases of the sample's place, finish and the mask step, each from the tests that lead to it.
+use Prim.Native.Nat.{ℕ, zero, suc, _+_, _-_, _/_, _%_, _<_, _≤_}
 use mathlib.Core.Path.{_≡_, refl, sym, ap, _∙_}
 use mathlib.Core.List.{List, [], _∷_}
 use mathlib.Core.Bool.{Bool, true, false, not, _&&_}
 use mathlib.Core.Option.{Option, none, some}
 use native.Mathlib.Nat.{not-suc-le-zero}
 use native.Mathlib.Omega.{arith}
-use lib.Bits.{bitXor}
+use lib.Bits.{bitAnd, bitXor}
 use lib.Dec.{leb, eqb}
 use lib.ListN.{length, take, drop, set, length-drop, length-set}
 use borrow.Author.Tests.{lt-ltb, le-ltb, le-leb, eq-eqb, ne-eqb, leb-true, not-true, not-false}
-use Rattle.coding.specs.Words.{if_then_else_, cut, got, andThen, Answer, no, ok}
-use Rattle.coding.specs.Bytes.{byteAt, be}
+use Rattle.coding.specs.Words.{if_then_else_, cut, got, andThen, Answer, no, ok, maxDatagram}
+use Rattle.coding.specs.Bytes.{byteAt, be, bytesBE}
 use Rattle.coding.specs.Reading.{fixedAt}
+use Rattle.coding.specs.Refusals.{numberOf}
+use Rattle.coding.specs.declared.refusal.Refusal.{Refusal}
 use Rattle.coding.specs.Said.{u32Of}
 use Rattle.coding.specs.declared.U32Read.{U32Read}
 use Rattle.coding.specs.declared.U32Read.the-variants as u32
 use Rattle.coding.proofs.Laws.{Octets, octets-drop, whole, fixed-some}
+use Rattle.shared.specs.FirstByte.{longHeaderForm, longReservedBits, shortReservedBits, keyPhaseBit}
 use Rattle.shared.specs.declared.kinds.CutNumber.{CutNumber}
-use Rattle.protect.specs.Protection.{xor, xorAt, numberLen, firstMask, numberMask, masked, applied, removed}
+use Rattle.number.specs.Cutting.{tagLength, firstCut, cutRead}
+use Rattle.number.specs.Said.{madeOf}
+use Rattle.number.specs.declared.CutMade.{CutMade}
+use Rattle.number.specs.declared.CutMade.the-variants as made
+use Rattle.number.proofs.Cuts.{read-some}
+use Rattle.number.proofs.Firsts.{be-again}
+use Rattle.protect.specs.Protection.{xor, xorAt, firstMask, numberMask, masked, applied, removed}
 use Rattle.protect.specs.Tests.{inSize, hasSample, formBit, numberBytes, numberFits, leastHeader, headerTests}
-use Rattle.protect.specs.Steps.{readOff, leftBy, Changed, sampleAt, Opened, unnumbered, openedBy, opened, openAt, Opens}
-use Rattle.protect.specs.Steps.{finishAt, finished, Finishes, protectAt, Protects, maskNumber, maskAt, Masks}
+use Rattle.protect.specs.Steps.{readOff, leftBy, Changed, sampleAt, Opened, unnumbered, openedBy, opened, openAt, Opens, finishAt, finished, Finishes, protectAt, Protects, maskNumber, maskAt, Masks}
 use Rattle.protect.specs.Said.{finishedOf}
 use Rattle.protect.specs.declared.Finished.the-variants as fin
 use Rattle.protect.proofs.Xor.{length-xorAt}
-use Rattle.protect.proofs.Numbers.{be-first}
 use Rattle.protect.proofs.Parts.{first-stored}
 
 -- ---- a test that a function of its own made, by what the code saw of it
@@ -66,19 +73,31 @@ first-masked long mask (suc at) n (b ∷ l) h k = refl
 
 -- ---- finish
 
--- of four bytes, all
-pub cut-four : (k word : ℕ) → k ≡ 4 → word ≡ word / 256 ^ (4 - k)
-cut-four k word e = rw e (omega arith)
+-- the length that a first byte has is one of the four: its number is never refused
+module _ (r : CutMade) (len first : ℕ) (bs : List ℕ) (el : len ≡ tagLength first) (e : madeOf r ≡ cutRead len bs) where
+  made-is : madeOf r ≡ ok (firstCut (tagLength first) bs)
+  made-is = e ∙ rw el (sym (read-some (tagLength first) bs (omega arith) (omega arith)))
+
+  pub decoded : (number : CutNumber) → r ≡ made.Cut number → number ≡ firstCut (tagLength first) bs
+  unfolding madeOf
+  decoded number q = let s : ok number ≡ ok (firstCut (tagLength first) bs) = rw q at made-is in cc
+
+  pub not-refused : (why : Refusal) → r ≡ made.Refused why → ⊥
+  unfolding madeOf
+  not-refused why q =
+      let s : no (numberOf why) ≡ ok (firstCut (tagLength first) bs) = rw q at made-is in
+      let z : _≡_ {A = ℕ} 0 1 = cc in
+      omega arith
 
 -- what is said of a long and of a short packet
-module _ (number : CutNumber) (first word k : ℕ) (e₀ : number .0 ≡ k) (e₁ : number .1 ≡ word / 256 ^ (4 - k)) (e : k ≡ numberLen first) where
-  pub said-long : finishedOf (fin.Long number (eqb (first / 4 % 4) 0)) ≡ ok (openedBy true first (word / 256 ^ (4 - numberLen first)))
+module _ (first : ℕ) {number n : CutNumber} (e : number ≡ n) where
+  pub said-long : finishedOf (fin.Long number (eqb (bitAnd first longReservedBits) 0)) ≡ ok (openedBy true first n)
   unfolding finishedOf openedBy if_then_else_
-  said-long = rw (e₀, e₁, e)
+  said-long = rw e
 
-  pub said-short : finishedOf (fin.Short number (eqb (first / 8 % 4) 0) (eqb (first / 4 % 2) 1)) ≡ ok (openedBy false first (word / 256 ^ (4 - numberLen first)))
+  pub said-short : finishedOf (fin.Short number (eqb (bitAnd first shortReservedBits) 0) (eqb (first / keyPhaseBit % 2) 1)) ≡ ok (openedBy false first n)
   unfolding finishedOf openedBy if_then_else_
-  said-short = rw (e₀, e₁, e)
+  said-short = rw e
 
 -- after the mask, four bytes are still there: 9 is never given
 pub not-cut : (packet ms : List ℕ) (at b : ℕ) {new : List ℕ} {r : U32Read} → hasSample (length packet) at ≡ true → new ≡ xorAt at ms (set packet 0 b)
@@ -102,29 +121,29 @@ module _ (long : Bool) (packet : List ℕ) (at : ℕ) (mask : List ℕ) where
     open-short k = rw (ne-eqb at 0 h, k)
 
     module _ (k : hasSample (length packet) at ≡ true) where
-      pub open-form : {bit : ℕ} → bit ≡ formBit long → (byteAt packet 0 / 0x80 ≡ bit → ⊥) → openAt long packet at mask ≡ no 14
+      pub open-form : {bit : ℕ} → bit ≡ formBit long → (byteAt packet 0 / longHeaderForm ≡ bit → ⊥) → openAt long packet at mask ≡ no 14
       unfolding openAt if_then_else_
-      open-form e f = rw (ne-eqb at 0 h, k, ne-eqb (byteAt packet 0 / 0x80) (formBit long) (λ q. f (q ∙ sym e)))
+      open-form e f = rw (ne-eqb at 0 h, k, ne-eqb (byteAt packet 0 / longHeaderForm) (formBit long) (λ q. f (q ∙ sym e)))
 
-      module _ (f : byteAt packet 0 / 0x80 ≡ formBit long) where
+      module _ (f : byteAt packet 0 / longHeaderForm ≡ formBit long) where
         reach : at + 20 ≤ length packet
         reach = omega (arith, leb-true (at + 4 + 16) (length packet) k)
 
         pub open-ok : openAt long packet at mask ≡ ok (removed long mask at packet)
         unfolding openAt if_then_else_ fixedAt andThen
-        open-ok = rw (ne-eqb at 0 h, k, eq-eqb (byteAt packet 0 / 0x80) (formBit long) f, le-leb (at + 4) (length packet) (omega (arith, reach)))
+        open-ok = rw (ne-eqb at 0 h, k, eq-eqb (byteAt packet 0 / longHeaderForm) (formBit long) f, le-leb (at + 4) (length packet) (omega (arith, reach)))
 
-        module _ (m n : ℕ) (new : List ℕ) (em : m ≡ firstMask long (byteAt mask 0)) (en : n ≡ numberLen (bitXor (byteAt packet 0) m))
+        module _ (m n : ℕ) (new : List ℕ) (em : m ≡ firstMask long (byteAt mask 0)) (en : n ≡ tagLength (bitXor (byteAt packet 0) m))
             (e₀ : new ≡ xorAt at (numberMask n mask) (set packet 0 (bitXor (byteAt packet 0) m))) (r : U32Read) (er : u32Of r ≡ fixedAt 4 new at) where
           e : new ≡ masked long mask at n packet
           e = e₀ ∙ first-stored long mask at n m packet (omega (arith, reach)) em
 
           is-removed : new ≡ removed long mask at packet
           unfolding removed
-          is-removed = e ∙ ap (λ (j : ℕ). masked long mask at j packet) (en ∙ ap (λ (x : ℕ). numberLen (bitXor (byteAt packet 0) x)) em)
+          is-removed = e ∙ ap (λ (j : ℕ). masked long mask at j packet) (en ∙ ap (λ (x : ℕ). tagLength (bitXor (byteAt packet 0) x)) em)
 
           pub open-done : (word next : ℕ) (said : Answer Opened) → Octets new → r ≡ u32.Num word next
-              → said ≡ ok (openedBy long (bitXor (byteAt packet 0) m) (word / 256 ^ (4 - numberLen (bitXor (byteAt packet 0) m))))
+              → said ≡ ok (openedBy long (bitXor (byteAt packet 0) m) (firstCut (tagLength (bitXor (byteAt packet 0) m)) (bytesBE 4 word)))
               → Opens long packet at mask said new
           unfolding u32Of fixedAt opened
           open-done word next said o q s =
@@ -135,8 +154,8 @@ module _ (long : Bool) (packet : List ℕ) (at : ℕ) (mask : List ℕ) where
               ∙ first-masked long mask at n packet (omega (arith, reach)) (omega (arith, reach))
               ∙ ap (bitXor (byteAt packet 0)) (sym em) in
               let four : 4 ≤ length (drop at new) = simp length-drop (omega (arith, w .0)) in
-              let v : be 0 (take 4 (drop at new)) / 256 ^ (4 - numberLen (byteAt new 0)) ≡ be 0 (take (numberLen (byteAt new 0)) (drop at new)) =
-              be-first (drop at new) 4 (numberLen (byteAt new 0)) (octets-drop at new o) (omega arith) four in
+              let v : be 0 (take (tagLength (byteAt new 0)) (bytesBE 4 (be 0 (take 4 (drop at new))))) ≡ be 0 (take (tagLength (byteAt new 0)) (drop at new)) =
+              be-again (drop at new) 4 (tagLength (byteAt new 0)) (octets-drop at new o) (omega arith) four in
               changed-ok (opened long at) packet (open-ok ∙ ap ok (sym is-removed)) (s ∙ rw (← b, ← w .1 .1, v))
 
 -- ---- the header's tests
@@ -159,66 +178,66 @@ pub tests-room : (headerLen k len : ℕ) (hasLength : Bool) (number : Option ℕ
 unfolding headerTests
 tests-room headerLen k len hasLength number e t =
     let h : headerTests headerLen (some k) hasLength len ≡ true = rw e at t in
-    least hasLength (leb-true (leastHeader (some k) hasLength) headerLen (and-right (leb len 65527 && leb headerLen len && numberFits (some k)) _ h))
+    least hasLength (leb-true (leastHeader (some k) hasLength) headerLen (and-right (leb len maxDatagram && leb headerLen len && numberFits (some k)) _ h))
   where
     least : (b : Bool) → leastHeader (some k) b ≤ headerLen → 1 + k ≤ headerLen
     least true h = omega arith
     least false h = h
 
-pub tests-size : (headerLen len : ℕ) (hasLength : Bool) (number : Option ℕ) → headerTests headerLen number hasLength len ≡ true → len ≤ 65527
+pub tests-size : (headerLen len : ℕ) (hasLength : Bool) (number : Option ℕ) → headerTests headerLen number hasLength len ≡ true → len ≤ maxDatagram
 unfolding headerTests
 tests-size headerLen len hasLength number h =
-    let a = and-left (leb len 65527 && leb headerLen len && numberFits number) _ h in
-    let b = and-left (leb len 65527 && leb headerLen len) (numberFits number) a in
-    leb-true len 65527 (and-left (leb len 65527) (leb headerLen len) b)
+    let a = and-left (leb len maxDatagram && leb headerLen len && numberFits number) _ h in
+    let b = and-left (leb len maxDatagram && leb headerLen len) (numberFits number) a in
+    leb-true len maxDatagram (and-left (leb len maxDatagram) (leb headerLen len) b)
 
 -- ---- the sample's place
 
 module _ (numbered : Bool) (packet : List ℕ) (at : ℕ) where
-  pub sample-big : 65527 < length packet → no 14 ≡ sampleAt numbered packet at
+  pub sample-big : maxDatagram < length packet → no 14 ≡ sampleAt numbered packet at
   unfolding sampleAt inSize if_then_else_
-  sample-big h = rw (lt-ltb 65527 (length packet) h)
+  sample-big h = rw (lt-ltb maxDatagram (length packet) h)
 
-  module _ (h : length packet ≤ 65527) where
+  module _ (h : length packet ≤ maxDatagram) where
     pub sample-none : numbered ≡ false → ok none ≡ sampleAt numbered packet at
     unfolding sampleAt inSize if_then_else_
-    sample-none e = rw (le-ltb 65527 (length packet) h, e)
+    sample-none e = rw (le-ltb maxDatagram (length packet) h, e)
 
     module _ (e : numbered ≡ true) where
       pub sample-zero : at ≡ 0 → no 14 ≡ sampleAt numbered packet at
       unfolding sampleAt inSize if_then_else_
-      sample-zero k = rw (le-ltb 65527 (length packet) h, e, eq-eqb at 0 k)
+      sample-zero k = rw (le-ltb maxDatagram (length packet) h, e, eq-eqb at 0 k)
 
       module _ (k : at ≡ 0 → ⊥) where
         pub sample-short : hasSample (length packet) at ≡ false → no 8 ≡ sampleAt numbered packet at
         unfolding sampleAt inSize if_then_else_
-        sample-short j = rw (le-ltb 65527 (length packet) h, e, ne-eqb at 0 k, j)
+        sample-short j = rw (le-ltb maxDatagram (length packet) h, e, ne-eqb at 0 k, j)
 
         pub sample-some : hasSample (length packet) at ≡ true → ok (some (record { start = at + 4; len = 16 })) ≡ sampleAt numbered packet at
         unfolding sampleAt inSize if_then_else_
-        sample-some j = rw (le-ltb 65527 (length packet) h, e, ne-eqb at 0 k, j)
+        sample-some j = rw (le-ltb maxDatagram (length packet) h, e, ne-eqb at 0 k, j)
 
 -- ---- finish of any kind
 
 module _ (numbered long : Bool) (packet : List ℕ) (at : ℕ) (mask : List ℕ) where
-  pub finish-big : 65527 < length packet → finishAt numbered long packet at mask ≡ no 14
+  pub finish-big : maxDatagram < length packet → finishAt numbered long packet at mask ≡ no 14
   unfolding finishAt inSize if_then_else_
-  finish-big h = rw (lt-ltb 65527 (length packet) h)
+  finish-big h = rw (lt-ltb maxDatagram (length packet) h)
 
-  module _ (h : length packet ≤ 65527) where
+  module _ (h : length packet ≤ maxDatagram) where
     pub finish-none : numbered ≡ false → Finishes numbered long packet at mask (ok unnumbered) packet
     unfolding finishAt finished inSize if_then_else_
-    finish-none e = changed-ok _ packet (rw (le-ltb 65527 (length packet) h, e)) (rw e)
+    finish-none e = changed-ok _ packet (rw (le-ltb maxDatagram (length packet) h, e)) (rw e)
 
     pub finish-on : {b : Bool} {said : Answer Opened} {new : List ℕ} → numbered ≡ true → b ≡ long → Opens b packet at mask said new
         → Finishes numbered long packet at mask said new
     unfolding finishAt finished inSize if_then_else_
-    finish-on e f c = rw (le-ltb 65527 (length packet) h, e, ← f) c
+    finish-on e f c = rw (le-ltb maxDatagram (length packet) h, e, ← f) c
 
-pub finish-ok : (long : Bool) (packet : List ℕ) (at : ℕ) (mask : List ℕ) → length packet ≤ 65527 → (at ≡ 0 → ⊥) → hasSample (length packet) at ≡ true
-    → byteAt packet 0 / 0x80 ≡ formBit long → finishAt true long packet at mask ≡ ok (removed long mask at packet)
+pub finish-ok : (long : Bool) (packet : List ℕ) (at : ℕ) (mask : List ℕ) → length packet ≤ maxDatagram → (at ≡ 0 → ⊥) → hasSample (length packet) at ≡ true
+    → byteAt packet 0 / longHeaderForm ≡ formBit long → finishAt true long packet at mask ≡ ok (removed long mask at packet)
 unfolding finishAt inSize if_then_else_
-finish-ok long packet at mask h z k f = rw (le-ltb 65527 (length packet) h) (open-ok long packet at mask z k f)
+finish-ok long packet at mask h z k f = rw (le-ltb maxDatagram (length packet) h) (open-ok long packet at mask z k f)
 
 -- ---- the mask step
 
@@ -228,15 +247,15 @@ module _ (long : Bool) (packet : List ℕ) (at : ℕ) (mask : List ℕ) where
   protect-short k = rw k
 
   module _ (k : hasSample (length packet) at ≡ true) {bit : ℕ} (e : bit ≡ formBit long) where
-    pub protect-form : (byteAt packet 0 / 0x80 ≡ bit → ⊥) → protectAt long packet at mask ≡ no 14
+    pub protect-form : (byteAt packet 0 / longHeaderForm ≡ bit → ⊥) → protectAt long packet at mask ≡ no 14
     unfolding protectAt if_then_else_
-    protect-form f = rw (k, ne-eqb (byteAt packet 0 / 0x80) (formBit long) (λ q. f (q ∙ sym e)))
+    protect-form f = rw (k, ne-eqb (byteAt packet 0 / longHeaderForm) (formBit long) (λ q. f (q ∙ sym e)))
 
-    pub protect-ok : byteAt packet 0 / 0x80 ≡ bit → protectAt long packet at mask ≡ ok (applied long mask at packet)
+    pub protect-ok : byteAt packet 0 / longHeaderForm ≡ bit → protectAt long packet at mask ≡ ok (applied long mask at packet)
     unfolding protectAt if_then_else_
-    protect-ok f = rw (k, eq-eqb (byteAt packet 0 / 0x80) (formBit long) (f ∙ e))
+    protect-ok f = rw (k, eq-eqb (byteAt packet 0 / longHeaderForm) (formBit long) (f ∙ e))
 
-    pub protect-done : {n m : ℕ} {new : List ℕ} → byteAt packet 0 / 0x80 ≡ bit → m ≡ firstMask long (byteAt mask 0) → n ≡ numberLen (byteAt packet 0)
+    pub protect-done : {n m : ℕ} {new : List ℕ} → byteAt packet 0 / longHeaderForm ≡ bit → m ≡ firstMask long (byteAt mask 0) → n ≡ tagLength (byteAt packet 0)
         → new ≡ xorAt at (numberMask n mask) (set packet 0 (bitXor (byteAt packet 0) m)) → protectAt long packet at mask ≡ ok new
     unfolding applied
     protect-done {n} {m} f em en ep =
@@ -259,7 +278,7 @@ module _ (headerLen : ℕ) (number : Option ℕ) (hasLength : Bool) (packet mask
     mask-on k e c = rw (h, e) c
 
 pub mask-ok : (headerLen k : ℕ) (hasLength : Bool) (packet mask : List ℕ) → headerTests headerLen (some k) hasLength (length packet) ≡ true
-    → hasSample (length packet) (headerLen - k) ≡ true → byteAt packet 0 / 0x80 ≡ formBit hasLength
+    → hasSample (length packet) (headerLen - k) ≡ true → byteAt packet 0 / longHeaderForm ≡ formBit hasLength
     → maskAt headerLen (some k) hasLength packet mask ≡ ok (applied hasLength mask (headerLen - k) packet)
 unfolding maskAt maskNumber if_then_else_
 mask-ok headerLen k hasLength packet mask t s f = rw t (protect-ok hasLength packet (headerLen - k) mask s refl f)

@@ -1,5 +1,4 @@
 pub mod Xor
-pub mod Numbers
 pub mod Parts
 pub mod Cases
 pub mod Back

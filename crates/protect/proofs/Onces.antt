@@ -1,4 +1,4 @@
--- Only one answer, and only one content of a lent packet, meets the contract of each public function. Assumes nothing.
+-- Only one answer, and only one content of a lent packet, meets the contract of each public function.
 use mathlib.Core.Path.{_∙_, sym}
 use mathlib.Core.List.{List}
 use Prim.Native.Nat.{ℕ}
@@ -16,6 +16,8 @@ use Rattle.protect.proofs.sample_place as sample-place
 use Rattle.protect.proofs.sample_place.Reads as sample-place-reads
 use Rattle.protect.proofs.finish as finish
 use Rattle.protect.proofs.finish.Reads as finish-reads
+use Rattle.protect.proofs.bytes_of as bytes-of
+use Rattle.protect.proofs.bytes_of.Reads as bytes-of-reads
 use Rattle.protect.proofs.header_part as header-part
 use Rattle.protect.proofs.header_part.Reads as header-part-reads
 use Rattle.protect.proofs.payload_part as payload-part
@@ -40,6 +42,10 @@ sample-place-once κs a x y s t p q = sample-one x y _ p q
 finish-once : Once {B = Finished × List ℕ} finish.ended finish-reads.Post (λ κs x s. (x, now (s .1 .0)))
 unfolding Once
 finish-once κs a x y s t p q i = (finished-one x y _ (p .says) (q .says) i, (p .leaves ∙ sym (q .leaves)) i)
+
+bytes-of-once : Once bytes-of.ended bytes-of-reads.Post (λ κs x s. x)
+unfolding Once
+bytes-of-once κs a x y s t p q = p ∙ sym q
 
 header-part-once : Once header-part.ended header-part-reads.Post (λ κs x s. seen x)
 unfolding Once

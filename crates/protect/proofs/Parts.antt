@@ -1,4 +1,4 @@
--- Parts of a packet: from its number offset on, lent, masked and come back; header and payload. Assumes nothing.
+-- Parts of a packet: from its number offset on, lent, masked and come back; header and payload.
 use Prim.Native.Nat.{ℕ, _+_, _-_, _<_, _≤_}
 use mathlib.Core.Path.{_≡_, refl, ap, _∙_}
 use mathlib.Core.List.{List, [], _∷_, _++_, append-nil}

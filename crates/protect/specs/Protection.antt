@@ -1,10 +1,11 @@
 -- Header protection: RFC 9001, 5.4.1.
-use Prim.Native.Nat.{ℕ, _+_, _%_}
+use Prim.Native.Nat.{ℕ, _%_}
 use mathlib.Core.List.{List, [], _∷_, _++_}
 use mathlib.Core.Bool.{Bool, true, false}
 use lib.ListN.{take, drop}
 use lib.Bits.{bitXor}
 use Rattle.coding.specs.Bytes.{byteAt}
+use Rattle.number.specs.Cutting.{tagLength}
 
 -- l with the bytes ms XORed over its first ones
 unfoldable pub xor : List ℕ → List ℕ → List ℕ
@@ -15,10 +16,6 @@ xor (m ∷ ms) (b ∷ l) = bitXor b m ∷ xor ms l
 -- the same over those from a place on
 unfoldable pub xorAt : ℕ → List ℕ → List ℕ → List ℕ
 xorAt at ms l = take at l ++ xor ms (drop at l)
-
--- the packet number's length is in the two least significant bits of the first byte
-abbrev pub numberLen : ℕ → ℕ
-numberLen first = first % 4 + 1
 
 -- of the mask's first byte m: four bits are masked in a long header, five in a short one
 abbrev pub firstMask : Bool → ℕ → ℕ
@@ -35,8 +32,8 @@ masked long mask at n packet = xorAt at (numberMask n mask) (xorAt 0 (firstMask 
 
 -- applied, the number's length is read from the first byte before it is masked
 unfoldable pub applied : Bool → List ℕ → ℕ → List ℕ → List ℕ
-applied long mask at packet = masked long mask at (numberLen (byteAt packet 0)) packet
+applied long mask at packet = masked long mask at (tagLength (byteAt packet 0)) packet
 
 -- removed, from the first byte without its mask
 unfoldable pub removed : Bool → List ℕ → ℕ → List ℕ → List ℕ
-removed long mask at packet = masked long mask at (numberLen (bitXor (byteAt packet 0) (firstMask long (byteAt mask 0)))) packet
+removed long mask at packet = masked long mask at (tagLength (bitXor (byteAt packet 0) (firstMask long (byteAt mask 0)))) packet

@@ -18,13 +18,13 @@ use Rattle.protect.specs.declared.Masked.{Masked}
 use Rattle.protect.specs.declared.Masked.the-variants as msk
 
 -- the long kinds, and those with a packet number (RFC 9000, 17)
-abbrev pub longOf : Kind → Bool
-longOf kind.Initial = true
-longOf kind.ZeroRtt = true
-longOf kind.Handshake = true
-longOf kind.Retry = true
-longOf kind.Short = false
-longOf kind.VersionNegotiate = true
+abbrev pub longHeader : Kind → Bool
+longHeader kind.Initial = true
+longHeader kind.ZeroRtt = true
+longHeader kind.Handshake = true
+longHeader kind.Retry = true
+longHeader kind.Short = false
+longHeader kind.VersionNegotiate = true
 
 abbrev pub numberedOf : Kind → Bool
 numberedOf kind.Initial = true

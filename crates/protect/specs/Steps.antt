@@ -4,15 +4,19 @@ use mathlib.Core.Path.{_≡_}
 use mathlib.Core.List.{List}
 use mathlib.Core.Bool.{Bool}
 use mathlib.Core.Option.{Option, none, some}
-use lib.ListN.{length, take, drop}
+use lib.ListN.{length, drop}
+use lib.Bits.{bitAnd}
 use lib.Dec.{eqb}
 use denote.Ref.{RefT, now}
 use Rattle.coding.specs.Words.{if_then_else_, andThen, Answer, no, ok}
-use Rattle.coding.specs.Bytes.{byteAt, be}
+use Rattle.coding.specs.Bytes.{byteAt}
 use Rattle.coding.specs.Reading.{fixedAt}
 use Rattle.coding.specs.Places.{Part, startOf, partOf}
 use Rattle.coding.specs.declared.Place.{Place}
-use Rattle.protect.specs.Protection.{numberLen, applied, removed}
+use Rattle.shared.specs.FirstByte.{longHeaderForm, longReservedBits, shortReservedBits, keyPhaseBit}
+use Rattle.shared.specs.declared.kinds.CutNumber.{CutNumber}
+use Rattle.number.specs.Cutting.{tagLength, firstCut}
+use Rattle.protect.specs.Protection.{applied, removed}
 use Rattle.protect.specs.Tests.{inSize, hasSample, formBit, numberBytes, headerTests}
 
 -- ---- a call that changes a lent packet: w is the packet afterwards, or a refusal
@@ -49,23 +53,22 @@ pub data Opened : Type 0 where
   long : ℕ → ℕ → Bool → Opened
   short : ℕ → ℕ → Bool → Bool → Opened
 
--- by the first byte without its mask, and the number's value: the reserved bits are 0c in a long header and 18 in a short
--- one, the key phase is 04
-unfoldable pub openedBy : Bool → ℕ → ℕ → Opened
-openedBy isLong first value =
-    if isLong then long (numberLen first) value (eqb (first / 4 % 4) 0)
-    else short (numberLen first) value (eqb (first / 8 % 4) 0) (eqb (first / 4 % 2) 1)
+-- by the first byte without its mask, and the number
+unfoldable pub openedBy : Bool → ℕ → CutNumber → Opened
+openedBy isLong first number =
+    if isLong then long (number .0) (number .1) (eqb (bitAnd first longReservedBits) 0)
+    else short (number .0) (number .1) (eqb (bitAnd first shortReservedBits) 0) (eqb (first / keyPhaseBit % 2) 1)
 
--- the number's bytes in network order, in the packet without its mask
+-- in the packet without its mask
 unfoldable pub opened : Bool → ℕ → List ℕ → Opened
-opened isLong at packet = openedBy isLong (byteAt packet 0) (be 0 (take (numberLen (byteAt packet 0)) (drop at packet)))
+opened isLong at packet = openedBy isLong (byteAt packet 0) (firstCut (tagLength (byteAt packet 0)) (drop at packet))
 
 -- a packet with a number, its mask removed
 unfoldable pub openAt : Bool → List ℕ → ℕ → List ℕ → Answer (List ℕ)
 openAt isLong packet at mask =
     if eqb at 0 then no 14 else
     if hasSample (length packet) at then
-    (if eqb (byteAt packet 0 / 0x80) (formBit isLong) then
+    (if eqb (byteAt packet 0 / longHeaderForm) (formBit isLong) then
     andThen (fixedAt 4 packet at) (no 9) (λ word next. ok (removed isLong mask at packet))
     else no 14)
     else no 8
@@ -103,7 +106,7 @@ done packet = tt
 unfoldable pub protectAt : Bool → List ℕ → ℕ → List ℕ → Answer (List ℕ)
 protectAt isLong packet at mask =
     if hasSample (length packet) at then
-    (if eqb (byteAt packet 0 / 0x80) (formBit isLong) then ok (applied isLong mask at packet) else no 14)
+    (if eqb (byteAt packet 0 / longHeaderForm) (formBit isLong) then ok (applied isLong mask at packet) else no 14)
     else no 8
 
 abbrev pub Protects : Bool → List ℕ → ℕ → List ℕ → Answer (Unit {0}) → List ℕ → Type 0

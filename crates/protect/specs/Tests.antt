@@ -5,17 +5,17 @@ use mathlib.Core.Bool.{Bool, true, false, _&&_}
 use mathlib.Core.Option.{Option, none, some}
 use lib.ListN.{length}
 use lib.Dec.{ltb, leb}
-use Rattle.coding.specs.Words.{if_then_else_, Answer, no}
+use Rattle.coding.specs.Words.{if_then_else_, Answer, no, maxDatagram}
 
 -- a packet has at most 65,527 bytes: past that it is 14
 unfoldable pub inSize : {A : Type 0} → List ℕ → Answer A → Answer A
-inSize packet answer = if ltb 65527 (length packet) then no 14 else answer
+inSize packet answer = if ltb maxDatagram (length packet) then no 14 else answer
 
 -- rule 8: a number of at most four bytes and a sample of sixteen follow the number offset
 abbrev pub hasSample : ℕ → ℕ → Bool
 hasSample len at = leb (at + 4 + 16) len
 
--- the header form bit, 0x80 of the first byte, as a number
+-- the header form, the top bit of the first byte, as a number
 abbrev pub formBit : Bool → ℕ
 formBit true = 1
 formBit false = 0
@@ -38,4 +38,4 @@ leastHeader number false = 1 + numberBytes number
 -- shorter than its header, and the header is not too short
 unfoldable pub headerTests : ℕ → Option ℕ → Bool → ℕ → Bool
 headerTests headerLen number hasLength len =
-    leb len 65527 && leb headerLen len && numberFits number && leb (leastHeader number hasLength) headerLen
+    leb len maxDatagram && leb headerLen len && numberFits number && leb (leastHeader number hasLength) headerLen

@@ -4,16 +4,23 @@ use coding::MAX_DATAGRAM;
 use coding::Place;
 use coding::Refusal;
 use coding::U32Read;
+use number::CutMade;
 use shared::CutNumber;
+use shared::KEY_PHASE_BIT;
+use shared::LONG_HEADER_FORM;
+use shared::LONG_RESERVED_BITS;
+use shared::SHORT_RESERVED_BITS;
 ghost use mathlib.Core.Path.{_≡_};
 ghost use mathlib.Core.Bool.{true};
-ghost use Prim.Native.Nat.{_+_, _-_, _/_, _^_, _≤_};
+ghost use Prim.Native.Nat.{_+_, _≤_};
 ghost use lib.ListN.{length, set};
 ghost use Rattle.coding.specs.Words.{ok};
-ghost use Rattle.protect.specs.Protection.{xor, xorAt, numberLen, firstMask, numberMask};
+ghost use Rattle.coding.specs.Bytes.{bytesBE};
+ghost use Rattle.number.specs.Cutting.{tagLength, firstCut};
+ghost use Rattle.protect.specs.Protection.{xor, xorAt, firstMask, numberMask};
 ghost use Rattle.protect.specs.Tests.{hasSample, formBit, numberBytes, numberFits, leastHeader, headerTests};
 ghost use Rattle.protect.specs.Steps.{sampleAt, openedBy, Opens, Finishes, PartAt, headerPlace, payloadPlace, Protects, Masks};
-ghost use Rattle.protect.specs.Said.{longOf, numberedOf, numberLenOf, sampleOf, finishedOf, maskedOf};
+ghost use Rattle.protect.specs.Said.{longHeader, numberedOf, numberLenOf, sampleOf, finishedOf, maskedOf};
 
 // The kind of a header.
 pub enum Kind {
@@ -26,9 +33,9 @@ pub enum Kind {
 }
 
 impl Kind {
-    // Whether the header has the long form: 0x80 is set in its first byte.
+    // Whether the header has the long form.
     pub fn is_long(self) -> bool
-        ensures { λ r. ⌜ r ≡ longOf self ⌝ }
+        ensures { λ r. ⌜ r ≡ longHeader self ⌝ }
     {
         match self {
             Kind::Initial => true,
@@ -96,13 +103,6 @@ fn first_mask(m: u8, long: bool) -> u8
     if long { m % 16 } else { m % 32 }
 }
 
-// The length of the number, from the first byte without its mask.
-fn number_len(first: u8) -> usize
-    ensures { λ r. ⌜ r ≡ numberLen first ⌝ }
-{
-    (first % 4) as usize + 1
-}
-
 // The most significant bit of the first byte.
 fn form_bit(long: bool) -> u8
     ensures { λ r. ⌜ r ≡ formBit long ⌝ }
@@ -144,34 +144,23 @@ fn mask_header(packet: &mut [u8], number_offset: usize, first: u8, n: usize, mas
     mask_number(&mut packet[number_offset..], n, mask);
 }
 
-// The number of k bytes that starts a word of four.
-fn cut(k: usize, word: u32) -> CutNumber
-    requires { ⌜ (1 ≤ k) × (k ≤ 4) ⌝ }
-    ensures { λ r. ⌜ (r .0 ≡ k) × (r .1 ≡ word / 256 ^ (4 - k)) ⌝ }
-{
-    match k {
-        1 => CutNumber(k, word / 0x100_0000),
-        2 => CutNumber(k, word / 0x1_0000),
-        3 => CutNumber(k, word / 0x100),
-        _ => CutNumber(k, word),
-    }
-}
-
 // What the first byte without its mask and the four bytes from the number offset on say.
 fn say_opened(long: bool, first: u8, word: u32) -> Finished
-    ensures { λ r. ⌜ finishedOf r ≡ ok (openedBy long first (word / 256 ^ (4 - numberLen first))) ⌝ }
+    ensures { λ r. ⌜ finishedOf r ≡ ok (openedBy long first (firstCut (tagLength first) (bytesBE 4 word))) ⌝ }
 {
-    let number = cut(number_len(first), word);
+    let CutMade::Cut(number) = number::decode(number::decode_len(first), word) else {
+        return Finished::Refused(Refusal::Argument);
+    };
     if long {
         return Finished::Long {
             number,
-            reserved_clear: first / 4 % 4 == 0,
+            reserved_clear: first & LONG_RESERVED_BITS == 0,
         };
     }
     Finished::Short {
         number,
-        reserved_clear: first / 8 % 4 == 0,
-        key_phase: first / 4 % 2 == 1,
+        reserved_clear: first & SHORT_RESERVED_BITS == 0,
+        key_phase: first / KEY_PHASE_BIT % 2 == 1,
     }
 }
 
@@ -205,12 +194,13 @@ fn finish_numbered(long: bool, packet: &mut [u8], number_offset: usize, mask: [u
     if !has_sample(packet.len(), number_offset) {
         return Finished::Refused(Refusal::Sample);
     }
-    if packet[0] / 0x80 != form_bit(long) {
+    if packet[0] / LONG_HEADER_FORM != form_bit(long) {
         return Finished::Refused(Refusal::Argument);
     }
     let hidden = packet[0];
     let first = hidden ^ first_mask(mask[0], long);
-    mask_header(packet, number_offset, first, number_len(first), mask);
+    let len = number::decode_len(first);
+    mask_header(packet, number_offset, first, len, mask);
     let U32Read::Num(word, _) = coding::get_u32(packet, number_offset) else {
         return Finished::Refused(Refusal::Number);
     };
@@ -219,7 +209,7 @@ fn finish_numbered(long: bool, packet: &mut [u8], number_offset: usize, mask: [u
 
 // Takes the header protection off a packet where it stands, and answers its number.
 pub fn finish(kind: Kind, packet: &mut [u8], number_offset: usize, mask: [u8; 5]) -> Finished
-    ensures { λ r. ⌜ Finishes (numberedOf kind) (longOf kind) (now (packet .entry)) «number_offset» mask (finishedOf r) (now (packet .exit)) ⌝ }
+    ensures { λ r. ⌜ Finishes (numberedOf kind) (longHeader kind) (now (packet .entry)) «number_offset» mask (finishedOf r) (now (packet .exit)) ⌝ }
 {
     if MAX_DATAGRAM < packet.len() {
         return Finished::Refused(Refusal::Argument);
@@ -230,8 +220,8 @@ pub fn finish(kind: Kind, packet: &mut [u8], number_offset: usize, mask: [u8; 5]
     finish_numbered(kind.is_long(), packet, number_offset, mask)
 }
 
-// How many bytes a number has.
-fn bytes_of(number: NumberLen) -> usize
+// The bytes of a header's number.
+pub fn bytes_of(number: NumberLen) -> usize
     ensures { λ r. ⌜ r ≡ numberBytes (numberLenOf number) ⌝ }
 {
     match number {
@@ -313,12 +303,13 @@ fn protect_numbered(long: bool, packet: &mut [u8], number_offset: usize, mask: [
     if !has_sample(packet.len(), number_offset) {
         return Masked::Refused(Refusal::Sample);
     }
-    if packet[0] / 0x80 != form_bit(long) {
+    if packet[0] / LONG_HEADER_FORM != form_bit(long) {
         return Masked::Refused(Refusal::Argument);
     }
     let first = packet[0];
     let hidden = first ^ first_mask(mask[0], long);
-    mask_header(packet, number_offset, hidden, number_len(first), mask);
+    let n = number::decode_len(first);
+    mask_header(packet, number_offset, hidden, n, mask);
     Masked::Done
 }
 

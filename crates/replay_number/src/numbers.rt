@@ -49,8 +49,10 @@ pub(crate) fn pndec(k: u64, b: &[u8]) -> Answer {
     if b.len() != 4 {
         return Answer::Bad;
     }
-    let bytes = [b[0], b[1], b[2], b[3]];
-    made(number::decode(k as usize, &bytes))
+    let U32Read::Num(word, _) = coding::get_u32(b, 0) else {
+        return Answer::Bad;
+    };
+    made(number::decode(k as usize, word))
 }
 
 pub(crate) fn pntag(k: u64, value: u64) -> Answer {

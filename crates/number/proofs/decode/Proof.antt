@@ -1,30 +1,35 @@
-use denote.Ref.{now}
-use mathlib.Core.Path.{ap, _∙_}
-use Prim.Native.Nat.{ℕ}
-use Rattle.coding.specs.Words.{ok}
-use Rattle.number.specs.Cutting.{cut}
+use native.Mathlib.Omega.{arith}
+use mathlib.Core.Logic.{⊎-elim}
 use Rattle.number.specs.Said.{madeOf}
-use Rattle.number.proofs.Cuts.{read-few, read-many, read-some}
-use borrow.Author.Needs.{needs}
+use Rattle.number.proofs.Windows.{le?}
+use Rattle.number.proofs.Cuts.{read-few, read-many, read-word}
 use Rattle.number.proofs.decode.Statement.{statement}
 use Rattle.number.proofs.decode.Tie as tie
 
 returns : tie.Need-returns
 unfolding madeOf
-returns c = read-few _ _ (c .if1 .taken)
+returns c = rw (c .match .keys1) (read-word 1 _ (omega arith) (omega arith) (omega arith) (omega arith))
 
 returns-2 : tie.Need-returns-2
 unfolding madeOf
-returns-2 c = read-many _ _ (c .before .if1 .left) (c .if2 .taken)
-
-first-bytes-requires : tie.Need-first-bytes-requires
-first-bytes-requires c κs = search needs
+returns-2 c = rw (c .match .keys2) (read-word 2 _ (omega arith) (omega arith) (omega arith) (omega arith))
 
 returns-3 : tie.Need-returns-3
 unfolding madeOf
-returns-3 c =
-    let a = c .before .before .before .before .args in
-    ap (λ (v : ℕ). ok (cut (a .len) v)) (c .first-bytes .ensures) ∙ read-some (a .len) (now (a .bytes)) (c .before .before .before .if1 .left) (c .before .before .if2 .left)
+returns-3 c = rw (c .match .keys3) (read-word 3 _ (omega arith) (omega arith) (omega arith) (omega arith))
+
+returns-4 : tie.Need-returns-4
+unfolding madeOf
+returns-4 c = rw (c .match .keys4) (read-word 4 _ (omega arith) (omega arith) (omega arith) (omega arith))
+
+returns-5 : tie.Need-returns-5
+unfolding madeOf
+returns-5 c =
+    let no = c .match .rest in
+    ⊎-elim
+    (λ a. read-many _ _ a (omega (arith, no .1, no .0 .1, no .0 .0 .1, no .0 .0 .0 .1)))
+    (λ a. read-few _ _ a)
+    (le? 1 (c .before .args .len))
 
 pub decode-spec : {M : Type 1} → statement M
-decode-spec = tie.close (tie.spec returns returns-2 first-bytes-requires returns-3)
+decode-spec = tie.close (tie.spec returns returns-2 returns-3 returns-4 returns-5)

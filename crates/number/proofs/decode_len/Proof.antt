@@ -1,6 +1,5 @@
 use native.Mathlib.Omega.{arith}
 use lib.Bits.{and-mask}
-use Rattle.number.specs.Cutting.{tagLength}
 use Rattle.number.proofs.decode_len.Statement.{statement}
 use Rattle.number.proofs.decode_len.Tie as tie
 
@@ -11,7 +10,6 @@ add-result : tie.Need-add-result
 add-result c = rw (and-mask (c .args .tag) 2) (omega arith)
 
 returns : tie.Need-returns
-unfolding tagLength
 returns c = rw (and-mask (c .args .tag) 2)
 
 pub decode-len-spec : {M : Type 1} → statement M

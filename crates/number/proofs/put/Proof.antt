@@ -1,10 +1,9 @@
-use Rattle.number.proofs.Cuts.{last-four}
 use borrow.Author.Tests.{not-true, not-false}
 use native.Mathlib.Omega.{arith}
 use mathlib.Core.Path.{sym, _∙_}
 use Rattle.coding.proofs.Writes.{put-none}
 use Rattle.number.proofs.Windows.{cut-rule}
-use Rattle.number.proofs.Cuts.{put-in, put-out}
+use Rattle.number.proofs.Cuts.{put-out, put-length}
 use borrow.Author.Needs.{needs}
 use Rattle.number.proofs.put.Statement.{statement}
 use Rattle.number.proofs.put.Tie as tie
@@ -15,33 +14,57 @@ is-cut-requires c κs = search needs
 returns : tie.Need-returns
 returns c = rw (put-out _ (sym (c .before .is-cut .ensures) ∙ not-true _ (c .if1 .taken))) (put-none _ _)
 
-sub-start : tie.Need-sub-start
-sub-start c = omega (arith, cut-rule _ (sym (c .before .before .is-cut .ensures) ∙ not-false _ (c .before .if1 .left)) .window)
+cast-x : tie.Need-cast-x
+cast-x c = search needs
 
-be-bytes-requires : tie.Need-be-bytes-requires
-be-bytes-requires c κs = search needs
+put-num-requires : tie.Need-put-num-requires
+put-num-requires c κs = search needs
 
-sub-put-slice : tie.Need-sub-put-slice
-sub-put-slice c = search needs
+put-num-requires-2 : tie.Need-put-num-requires-2
+put-num-requires-2 c κs = search needs
 
-part-put-slice-start : tie.Need-part-put-slice-start
-part-put-slice-start c = search needs
+put-num-requires-3 : tie.Need-put-num-requires-3
+put-num-requires-3 c κs = search needs
 
-part-put-slice-end : tie.Need-part-put-slice-end
-part-put-slice-end c = search needs
-
-put-slice-requires : tie.Need-put-slice-requires
-put-slice-requires c κs = search needs
+put-num-requires-4 : tie.Need-put-num-requires-4
+put-num-requires-4 c κs = search needs
 
 same-length : tie.Need-same-length
 same-length c = search needs
 
 returns-2 : tie.Need-returns-2
 returns-2 c =
-    let i = sym (c .before .before .before .before .before .before .before .before .before .is-cut .ensures) ∙ not-false _ (c .before .before .before .before .before .before .before .before .if1 .left) in
-    let a = c .before .before .before .before .before .before .before .before .before .before .before .args in
-    let l = last-four (a .c .0) (a .c .1) _ (c .before .before .before .before .before .before .be-bytes .ensures) (cut-rule _ i .window .high) in
-    rw (put-in _ i, ← l) (c .before .before .put-slice .ensures)
+    let m = c .before .before .before .before in
+    let t = m .before .before in
+    put-length _ (sym (t .before .is-cut .ensures) ∙ not-false _ (t .if1 .left)) (m .match .keys1) (c .before .before .put-num .ensures)
+
+same-length-2 : tie.Need-same-length-2
+same-length-2 c = search needs
+
+returns-3 : tie.Need-returns-3
+returns-3 c =
+    let m = c .before .before .before .before in
+    let t = m .before .before in
+    put-length _ (sym (t .before .is-cut .ensures) ∙ not-false _ (t .if1 .left)) (m .match .keys2) (c .before .before .put-num2 .ensures)
+
+same-length-3 : tie.Need-same-length-3
+same-length-3 c = search needs
+
+returns-4 : tie.Need-returns-4
+returns-4 c =
+    let m = c .before .before .before .before in
+    let t = m .before .before in
+    put-length _ (sym (t .before .is-cut .ensures) ∙ not-false _ (t .if1 .left)) (m .match .keys3) (c .before .before .put-num3 .ensures)
+
+same-length-4 : tie.Need-same-length-4
+same-length-4 c = search needs
+
+returns-5 : tie.Need-returns-5
+returns-5 c =
+    let m = c .before .before .before .before in
+    let t = m .before .before in
+    let i = sym (t .before .is-cut .ensures) ∙ not-false _ (t .if1 .left) in
+    put-length _ i (omega (arith, cut-rule _ i .window, m .match .rest)) (c .before .before .put-num4 .ensures)
 
 pub put-spec : {M : Type 1} → statement M
 put-spec =
@@ -49,11 +72,16 @@ put-spec =
     (tie.spec
     is-cut-requires
     returns
-    sub-start
-    be-bytes-requires
-    sub-put-slice
-    part-put-slice-start
-    part-put-slice-end
-    put-slice-requires
+    cast-x
+    put-num-requires
+    put-num-requires-2
+    put-num-requires-3
+    put-num-requires-4
     same-length
-    returns-2)
+    returns-2
+    same-length-2
+    returns-3
+    same-length-3
+    returns-4
+    same-length-4
+    returns-5)

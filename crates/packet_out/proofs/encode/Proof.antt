@@ -1,4 +1,4 @@
-use Rattle.packet_out.proofs.Before.{out-wide, out-wide-src, out-lent}
+use Rattle.packet_out.proofs.BeforePayload.{out-wide, out-wide-src, out-lent}
 use Rattle.packet_out.proofs.Laws.{encodes-no}
 use Rattle.packet_out.specs.Said.{plainOf, encodedOf}
 use Rattle.shared.specs.Cid.{cidBytes}

@@ -1,4 +1,4 @@
-use Rattle.packet_out.proofs.Before.{with-not, with-field}
+use Rattle.packet_out.proofs.BeforePayload.{with-not, with-field}
 use Rattle.packet_out.proofs.Laws.{encodes-no}
 use Rattle.packet_out.specs.Said.{plainOf, encodedOf}
 use Rattle.shared.specs.Cid.{cidOf}

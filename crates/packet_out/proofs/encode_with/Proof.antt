@@ -6,7 +6,7 @@ use Rattle.coding.proofs.Laws.{length-bytesBE}
 use Rattle.coding.proofs.Writes.{written-no, written-short, written-ok, put-so}
 use Rattle.protect.proofs.Cases.{told, denied}
 use Rattle.packet_out.specs.Encoding.{Shape, numberLenIn}
-use Rattle.packet_out.specs.Said.{encodedOf, partOf, shapeOf}
+use Rattle.packet_out.specs.Said.{encodedOf, partialSaid, shapeOf}
 use Rattle.packet_out.proofs.Laws.{kept, out-rules, out-long, out-ok, out-length, long-seen, fits-seen, size-seen, size-refused, encodes-no, encodes-ok}
 use borrow.Author.Needs.{needs}
 use Rattle.packet_out.proofs.encode_with.Statement.{statement}
@@ -85,7 +85,7 @@ same-length : tie.Need-same-length
 same-length c = search needs
 
 returns-5 : tie.Need-returns-5
-unfolding encodedOf partOf shapeOf
+unfolding encodedOf partialSaid shapeOf
 returns-5 c =
     let a = c .before .before .before .before .before .before .before .before .before .before .before .before .before .before .before .before .before .before .before .args in
     let en = c .before .before .before .before .before .before .before .before .before .before .before .before .before .before .number .ensures in

@@ -1,4 +1,4 @@
-use Rattle.packet_out.proofs.Runs.{names-room, token-room, number-room, header-put}
+use Rattle.packet_out.proofs.WholePut.{names-room, token-room, header-put}
 use Prim.Native.Nat.{_<_}
 use native.Mathlib.Omega.{arith}
 use denote.Ref.{now}
@@ -39,16 +39,9 @@ put-length-requires : tie.Need-put-length-requires
 put-length-requires c κs = search needs
 
 put-number-requires : tie.Need-put-number-requires
-unfolding shapeOf
 put-number-requires c κs =
-    let f = c .before .before .before in
-    let e = c .before .before .before .before .before .before .before in
-    let d = c .before .before .before .before .before .before .before .before .before .before .before in
-    let b = c .before .before .before .before .before .before .before .before .before .before .before .before .before .before .before in
-    let t = c .before .before .before .before .before .before .before .before .before .before .before .before .before .before .before .before .before .before .before .before .before in
-    let a = t .args in
-    let x : a .form .first < 256 = search needs in
-    (kept _ _ _ (t .pre .0) .cut, number-room (bytesBE 2 (a .field)) (shapeOf (a .form)) (cutOf (a .number)) (cidOf (now (a .dst-cid))) (cidOf (now (a .src-cid))) (now (a .token)) x (t .pre .1 .1) (b .put-u8 .ensures) (d .put-names .ensures) (e .put-token .ensures) (f .put-length .ensures))
+    let e = c .before .before .before .before .before .before .before .before .before .before .before in
+    kept _ _ _ (e .before .before .before .before .before .before .before .before .before .before .pre .0) .cut
 
 same-length : tie.Need-same-length
 same-length c = search needs

@@ -1,4 +1,4 @@
-use Rattle.packet_out.proofs.Runs.{bytes-room, long-run}
+use Rattle.packet_out.proofs.WholePut.{long-run}
 use denote.Ref.{now}
 use borrow.Author.Needs.{needs}
 use Rattle.packet_out.proofs.put_long.Statement.{statement}
@@ -10,10 +10,8 @@ cast-put-u8 c = search needs
 put-u8-requires : tie.Need-put-u8-requires
 put-u8-requires c κs = search needs
 
-put-bytes-requires : tie.Need-put-bytes-requires
-put-bytes-requires c κs =
-    let t = c .before .before .before .before .before .before .before in
-    bytes-room (now (t .args .cid)) (t .pre .0) (t .pre .1) (c .before .before .before .put-u8 .ensures)
+put-slice-requires : tie.Need-put-slice-requires
+put-slice-requires c κs = search needs
 
 same-length : tie.Need-same-length
 same-length c = search needs
@@ -21,8 +19,8 @@ same-length c = search needs
 returns : tie.Need-returns
 returns c =
     let t = c .before .before .before .before .before .before .before .before .before .before in
-    long-run (now (t .args .cid)) (t .pre .0) (t .pre .1) (c .before .before .before .before .before .before .put-u8 .ensures) (c .before .before .put-bytes .ensures)
+    long-run (now (t .args .cid)) (t .pre .0) (t .pre .1) (c .before .before .before .before .before .before .put-u8 .ensures) (c .before .before .put-slice .ensures)
 
 pub put-long-spec : {M : Type 1} → statement M
 put-long-spec =
-    tie.close (tie.spec cast-put-u8 put-u8-requires put-bytes-requires same-length returns)
+    tie.close (tie.spec cast-put-u8 put-u8-requires put-slice-requires same-length returns)

@@ -1,10 +1,8 @@
-use Rattle.packet_out.proofs.Runs.{dst-room, src-room, names-run}
-use Rattle.packet_out.proofs.Laws.{lent-short}
+use Rattle.packet_out.proofs.WholePut.{dst-room, src-room, names-run}
 use Rattle.shared.specs.Cid.{cidOf}
 use Rattle.shared.proofs.Back.{cid-same}
 use Rattle.packet_out.specs.Encoding.{namesBytes}
 use Rattle.packet_out.specs.Said.{versionOf}
-use native.Mathlib.Omega.{arith}
 use denote.Ref.{now}
 use borrow.Author.Needs.{needs}
 use Rattle.packet_out.proofs.put_names.Statement.{statement}
@@ -16,12 +14,8 @@ enum-known-version c = search needs
 enum-told : tie.Need-enum-told
 enum-told c = search needs
 
-put-bytes-requires : tie.Need-put-bytes-requires
-unfolding versionOf
-put-bytes-requires c κs =
-    let t = c .before .before .before .before .before .before in
-    let r = rw (c .before .enum-told .given .1) at (t .pre .1) in
-    omega (arith, r, lent-short (now (t .args .dst-cid)) (now (t .args .src-cid)))
+put-slice-requires : tie.Need-put-slice-requires
+put-slice-requires c κs = search needs
 
 same-length : tie.Need-same-length
 same-length c = search needs
@@ -30,7 +24,7 @@ returns : tie.Need-returns
 unfolding versionOf namesBytes
 returns c =
     let t = c .before .before .before .before .before .before .before .before .before in
-    rw (c .before .before .before .before .enum-told .given .1, cid-same (now (t .args .dst-cid))) (c .before .before .put-bytes .ensures)
+    rw (c .before .before .before .before .enum-told .given .1, cid-same (now (t .args .dst-cid))) (c .before .before .put-slice .ensures)
 
 put-u32-requires : tie.Need-put-u32-requires
 put-u32-requires c κs = search needs
@@ -70,7 +64,7 @@ put-names-spec =
     (tie.spec
     enum-known-version
     enum-told
-    put-bytes-requires
+    put-slice-requires
     same-length
     returns
     put-u32-requires

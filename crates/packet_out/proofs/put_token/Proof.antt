@@ -10,7 +10,6 @@ use Rattle.coding.proofs.Laws.{put-some, length-var}
 use Rattle.coding.proofs.Writes.{put-none, put-fits, put-so, so-put}
 use Rattle.packet_out.specs.Encoding.{tokenBytes}
 use Rattle.packet_out.proofs.Laws.{length-token}
-use Rattle.packet_out.proofs.Runs.{stands}
 use borrow.Author.Needs.{needs}
 use Rattle.packet_out.proofs.put_token.Statement.{statement}
 use Rattle.packet_out.proofs.put_token.Tie as tie
@@ -24,17 +23,8 @@ returns c =
 write-var-requires : tie.Need-write-var-requires
 write-var-requires c κs = search needs
 
-put-bytes-requires : tie.Need-put-bytes-requires
-put-bytes-requires c κs =
-    let t = c .before .before .before .before .before .before .before .before in
-    let a = t .args in
-    let e : a .has-token ≡ true = not-false _ (c .before .before .before .before .before .if1 .left) in
-    let l = length-token (now (a .token)) in
-    let p = rw e at (t .pre) in
-    let m : length (varBytes (length (now (a .token)))) ≡ varSize (length (now (a .token))) = length-var _ in
-    let u = rw (put-some (length (now (a .token))) (omega (arith, p .0, l))) at (c .before .before .before .write-var .ensures) in
-    let s = stands (put-so _ _ _ (omega (arith, p .1, l)) u) (omega (arith, p .1, l, m)) in
-    omega (arith, s, p .1, l, m)
+put-slice-requires : tie.Need-put-slice-requires
+put-slice-requires c κs = search needs
 
 same-length : tie.Need-same-length
 same-length c = search needs
@@ -50,8 +40,8 @@ returns-2 c =
     let p = rw e at (t .pre) in
     let m : length (varBytes (length (now (a .token)))) ≡ varSize (length (now (a .token))) = length-var _ in
     let u = rw (put-some (length (now (a .token))) (omega (arith, p .0, l))) at (b .write-var .ensures) in
-    rw e (put-fits _ _ _ (p .1) (so-put (put-so _ _ _ (omega (arith, p .1, l)) u) (omega (arith, p .1, l)) (c .before .before .put-bytes .ensures)))
+    rw e (put-fits _ _ _ (p .1) (so-put (put-so _ _ _ (omega (arith, p .1, l)) u) (omega (arith, p .1, l)) (c .before .before .put-slice .ensures)))
 
 pub put-token-spec : {M : Type 1} → statement M
 put-token-spec =
-    tie.close (tie.spec returns write-var-requires put-bytes-requires same-length returns-2)
+    tie.close (tie.spec returns write-var-requires put-slice-requires same-length returns-2)

@@ -47,15 +47,15 @@ array-read-first-mask c = search needs
 first-mask-requires : tie.Need-first-mask-requires
 first-mask-requires c κs = search needs
 
-number-len-requires : tie.Need-number-len-requires
-number-len-requires c κs = search needs
+decode-len-requires : tie.Need-decode-len-requires
+decode-len-requires c κs = search needs
 
 mask-header-requires : tie.Need-mask-header-requires
 mask-header-requires c κs =
     let s = c .before .before .before .before .before .before .before in
     let a = s .before .before .before .before .args in
     let h = reaches (length (a .packet .now)) (a .number-offset) (s .before .has-sample .ensures) (s .if2 .left) in
-    (omega (arith, c .number-len .ensures), omega arith)
+    (omega (arith, c .before .decode-len .ensures), omega arith)
 
 get-u32-requires : tie.Need-get-u32-requires
 get-u32-requires c κs = search needs
@@ -87,12 +87,12 @@ returns-5 : tie.Need-returns-5
 returns-5 c =
     let g = c .before .before .before .before in
     let m = g .before .before .before .before in
-    let n = m .before in
-    let f = n .before .before in
+    let n = m .before .before in
+    let f = n .before in
     let b = f .before .before in
     let s = b .before .before .before in
     open-done _ _ _ _ (s .before .before .if1 .left) (told (s .before .has-sample .ensures) (s .if2 .left)) (b .if3 .left ∙ b .before .form-bit .ensures) _ _ _
-    (f .first-mask .ensures) (n .number-len .ensures) (m .mask-header .ensures) _ (g .get-u32 .ensures) _ _ _
+    (f .first-mask .ensures) (n .decode-len .ensures) (m .mask-header .ensures) _ (g .get-u32 .ensures) _ _ _
     (λ i. omega (arith, c .before .before .before .before .before .before .slice-known4 .given i)) (c .before .before .word .given .1) (c .say-opened .ensures)
 
 pub finish-numbered-spec : {M : Type 1} → statement M
@@ -108,7 +108,7 @@ finish-numbered-spec =
     slice-read-hidden
     array-read-first-mask
     first-mask-requires
-    number-len-requires
+    decode-len-requires
     mask-header-requires
     get-u32-requires
     enum-known-word

@@ -42,15 +42,15 @@ array-read-first-mask c = search needs
 first-mask-requires : tie.Need-first-mask-requires
 first-mask-requires c κs = search needs
 
-number-len-requires : tie.Need-number-len-requires
-number-len-requires c κs = search needs
+decode-len-requires : tie.Need-decode-len-requires
+decode-len-requires c κs = search needs
 
 mask-header-requires : tie.Need-mask-header-requires
 mask-header-requires c κs =
     let s = c .before .before .before .before .before .before .before in
     let a = s .before .before .before .args in
     let h = reaches (length (a .packet .now)) (a .number-offset) (s .before .has-sample .ensures) (s .if1 .left) in
-    (omega (arith, c .number-len .ensures), omega arith)
+    (omega (arith, c .before .decode-len .ensures), omega arith)
 
 same-length : tie.Need-same-length
 same-length c = search needs
@@ -58,13 +58,13 @@ same-length c = search needs
 returns-3 : tie.Need-returns-3
 unfolding maskedOf
 returns-3 c =
-    let n = c .before .before .before in
-    let f = n .before .before in
+    let n = c .before .before .before .before in
+    let f = n .before in
     let b = f .before .before in
     let s = b .before .before .before in
     changed-ok _ _
     (protect-done _ _ _ _ (told (s .before .has-sample .ensures) (s .if1 .left)) (b .before .form-bit .ensures) (b .if2 .left)
-    (f .first-mask .ensures) (n .number-len .ensures) (c .before .before .mask-header .ensures))
+    (f .first-mask .ensures) (n .decode-len .ensures) (c .before .before .mask-header .ensures))
     refl
 
 pub protect-numbered-spec : {M : Type 1} → statement M
@@ -79,7 +79,7 @@ protect-numbered-spec =
     slice-read-first
     array-read-first-mask
     first-mask-requires
-    number-len-requires
+    decode-len-requires
     mask-header-requires
     same-length
     returns-3)

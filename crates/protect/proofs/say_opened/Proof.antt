@@ -1,19 +1,43 @@
-use Rattle.protect.proofs.Cases.{said-long, said-short}
+use Rattle.protect.proofs.Cases.{decoded, not-refused, said-long, said-short}
 use borrow.Author.Needs.{needs}
 use Rattle.protect.proofs.say_opened.Statement.{statement}
 use Rattle.protect.proofs.say_opened.Tie as tie
 
-number-len-requires : tie.Need-number-len-requires
-number-len-requires c κs = search needs
+decode-len-requires : tie.Need-decode-len-requires
+decode-len-requires c κs = search needs
 
-cut-requires : tie.Need-cut-requires
-cut-requires c κs = search needs
+decode-requires : tie.Need-decode-requires
+decode-requires c κs = search needs
+
+enum-known-number : tie.Need-enum-known-number
+enum-known-number c = search needs
+
+enum-told : tie.Need-enum-told
+enum-told c = search needs
 
 returns : tie.Need-returns
-returns c = rw (c .if1 .taken) (said-long _ _ _ _ (c .before .cut .ensures .0) (c .before .cut .ensures .1) (c .before .before .number-len .ensures))
+returns c =
+    let d = c .before .before in
+    absurd (not-refused _ _ _ _ (d .before .decode-len .ensures) (d .decode .ensures) _ (c .enum-told .given .1))
 
 returns-2 : tie.Need-returns-2
-returns-2 c = rw (c .if1 .left) (said-short _ _ _ _ (c .before .cut .ensures .0) (c .before .cut .ensures .1) (c .before .before .number-len .ensures))
+returns-2 c =
+    let d = c .before .before .before .before in
+    rw (c .if1 .taken) (said-long _ (decoded _ _ _ _ (d .before .decode-len .ensures) (d .decode .ensures) _ (c .before .before .number .given .1)))
+
+returns-3 : tie.Need-returns-3
+returns-3 c =
+    let d = c .before .before .before .before in
+    rw (c .if1 .left) (said-short _ (decoded _ _ _ _ (d .before .decode-len .ensures) (d .decode .ensures) _ (c .before .before .number .given .1)))
 
 pub say-opened-spec : {M : Type 1} → statement M
-say-opened-spec = tie.close (tie.spec number-len-requires cut-requires returns returns-2)
+say-opened-spec =
+    tie.close
+    (tie.spec
+    decode-len-requires
+    decode-requires
+    enum-known-number
+    enum-told
+    returns
+    returns-2
+    returns-3)

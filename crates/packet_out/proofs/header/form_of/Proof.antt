@@ -1,6 +1,6 @@
 use mathlib.Core.Path.{sym, _∙_}
 use Rattle.packet.specs.Said.{longTypeOf}
-use Rattle.packet_out.specs.Encoding.{numberIn, numberKeeps, shapeBy}
+use Rattle.packet_out.specs.Encoding.{plainNumber, numberKeeps, shapeBy}
 use Rattle.packet_out.specs.Said.{plainOf, shapeOf, versionOf}
 use Rattle.packet_out.proofs.Standard.{long-number, long-shape}
 use borrow.Author.Needs.{needs}
@@ -14,7 +14,7 @@ long-first-requires : tie.Need-long-first-requires
 long-first-requires c κs = search needs
 
 low-bits-requires : tie.Need-low-bits-requires
-unfolding plainOf numberIn numberKeeps
+unfolding plainOf plainNumber numberKeeps
 low-bits-requires c κs = rw (c .before .before .header .given .1) at (c .before .before .before .before .pre)
 
 add-first : tie.Need-add-first
@@ -55,17 +55,17 @@ short-first-requires : tie.Need-short-first-requires
 short-first-requires c κs = search needs
 
 low-bits-requires-3 : tie.Need-low-bits-requires-3
-unfolding plainOf numberIn numberKeeps
+unfolding plainOf plainNumber numberKeeps
 low-bits-requires-3 c κs = rw (c .before .before .header4 .given .1) at (c .before .before .before .before .pre)
 
-add-t25 : tie.Need-add-t25
-add-t25 c = search needs
+add-t26 : tie.Need-add-t26
+add-t26 c = search needs
 
 enum-known-header-5 : tie.Need-enum-known-header-5
 enum-known-header-5 c = search needs
 
-add-long-form : tie.Need-add-long-form
-add-long-form c = search needs
+add-first-3 : tie.Need-add-first-3
+add-first-3 c = search needs
 
 long-form-requires-4 : tie.Need-long-form-requires-4
 long-form-requires-4 c κs = search needs
@@ -114,9 +114,9 @@ form-of-spec =
     enum-known-header-4
     short-first-requires
     low-bits-requires-3
-    add-t25
+    add-t26
     enum-known-header-5
-    add-long-form
+    add-first-3
     long-form-requires-4
     returns
     returns-2

@@ -9,8 +9,17 @@ use Rattle.packet_out.proofs.header.long_first.Tie as tie
 enum-told : tie.Need-enum-told
 enum-told c = search needs
 
+add-result : tie.Need-add-result
+add-result c = search needs
+
 enum-told-2 : tie.Need-enum-told-2
 enum-told-2 c = search needs
+
+add-result-2 : tie.Need-add-result-2
+add-result-2 c = search needs
+
+add-result-3 : tie.Need-add-result-3
+add-result-3 c = search needs
 
 enum-known-ty : tie.Need-enum-known-ty
 enum-known-ty c = search needs
@@ -18,8 +27,20 @@ enum-known-ty c = search needs
 enum-told-3 : tie.Need-enum-told-3
 enum-told-3 c = search needs
 
+add-result-4 : tie.Need-add-result-4
+add-result-4 c = search needs
+
+add-result-5 : tie.Need-add-result-5
+add-result-5 c = search needs
+
 enum-told-4 : tie.Need-enum-told-4
 enum-told-4 c = search needs
+
+add-result-6 : tie.Need-add-result-6
+add-result-6 c = search needs
+
+add-result-7 : tie.Need-add-result-7
+add-result-7 c = search needs
 
 returns : tie.Need-returns
 unfolding longFirst bitsOf longTypeOf
@@ -42,10 +63,17 @@ long-first-spec =
     tie.close
     (tie.spec
     enum-told
+    add-result
     enum-told-2
+    add-result-2
+    add-result-3
     enum-known-ty
     enum-told-3
+    add-result-4
+    add-result-5
     enum-told-4
+    add-result-6
+    add-result-7
     returns
     returns-2
     returns-3

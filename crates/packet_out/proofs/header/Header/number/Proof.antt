@@ -1,5 +1,5 @@
 use mathlib.Core.Path.{sym}
-use Rattle.packet_out.specs.Encoding.{numberIn}
+use Rattle.packet_out.specs.Encoding.{plainNumber}
 use Rattle.packet_out.specs.Said.{plainOf, cutOf}
 use Rattle.packet_out.proofs.Standard.{long-number}
 use borrow.Author.Needs.{needs}
@@ -22,7 +22,7 @@ enum-told-2 : tie.Need-enum-told-2
 enum-told-2 c = search needs
 
 returns : tie.Need-returns
-unfolding cutOf numberIn plainOf
+unfolding cutOf plainNumber plainOf
 returns c = rw (c .before .self .given .1)
 
 returns-2 : tie.Need-returns-2
@@ -30,15 +30,15 @@ unfolding cutOf plainOf
 returns-2 c = rw (c .before .self2 .given .1) (sym (long-number _ _ _))
 
 returns-3 : tie.Need-returns-3
-unfolding cutOf numberIn plainOf
+unfolding cutOf plainNumber plainOf
 returns-3 c = rw (c .enum-told .given .1)
 
 returns-4 : tie.Need-returns-4
-unfolding cutOf numberIn plainOf
+unfolding cutOf plainNumber plainOf
 returns-4 c = rw (c .before .self3 .given .1)
 
 returns-5 : tie.Need-returns-5
-unfolding cutOf numberIn plainOf
+unfolding cutOf plainNumber plainOf
 returns-5 c = rw (c .enum-told2 .given .1)
 
 pub number-spec : {M : Type 1} → statement M

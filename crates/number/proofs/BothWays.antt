@@ -1,22 +1,22 @@
 -- Runs of the model, so that it is not empty: for every length a packet that is read as it was sent, and one that is misread; and an
--- acknowledgement that shortens the next cut. Assumes nothing.
+-- acknowledgement that shortens the next cut.
 use Prim.Native.Nat.{ℕ, zero, suc, _+_, _-_, _*_, _/_, _%_, _^_, _≤_, _<_}
 use mathlib.Core.Path.{_≡_, refl, sym, ap, _∙_}
 use mathlib.Core.List.{List·Memᴰ, List·Memᴰ·head, List·Memᴰ·tail}
 use mathlib.Core.Logic.{⊎-elim}
-use native.Mathlib.Nat.{two-pow-succ}
+use native.Mathlib.Nat.{two-pow-succ, one-le-pow}
 use native.Mathlib.Omega.{arith}
 use lib.Pow.{pow-mono, pow-lt}
 use Rattle.coding.specs.Words.{if_then_else_, ok}
 use Rattle.number.specs.Cutting.{cut, windowOf, bytesFor}
 use Rattle.number.specs.Ends.{SoFar, none, at, Ends, baseOf, expectedOf, largerOf, Call, Packet, done, sendWith, sendBy, readBy}
-use Rattle.number.specs.Line.{World, freshWorld, Step, Reach, Near}
-use Rattle.number.specs.Line.Step.{sends, accepts, acknowledges, hears}
+use Rattle.number.specs.Line.{World, freshWorld, LineStep, Reach}
+use Rattle.number.specs.Line.LineStep.{sends, accepts, acknowledges, hears}
 use Rattle.number.specs.Line.Reach.{start, next}
 use Rattle.number.proofs.Windows.{le?, bytes-are, bytes-some}
 use Rattle.number.proofs.Cuts.{made-cut}
 use Rattle.number.proofs.Calls.{SendMade, send-yes, send-on}
-use Rattle.number.proofs.Delivery.{inv, reads, delivery, heard, taken}
+use Rattle.number.proofs.Delivery.{inv, reads, delivered, heard, taken}
 
 -- ---- the sender goes on
 
@@ -85,11 +85,11 @@ pub record Accepted (w : World) (p : Packet) : Type 0 where
   pub sent : world .sent ≡ w .sent
   pub accepted : List·Memᴰ (p .number) (world .accepted)
 
-accept-it : {w : World} → Reach w → {p : Packet} → List·Memᴰ p (w .sent) → Near (w .receiver .largest) (p .number) (p .carries .0) → Accepted w p
+accept-it : {w : World} → Reach w → {p : Packet} → List·Memᴰ p (w .sent) → expectedOf (w .receiver .largest) < p .number + 2 ^ (8 * p .carries .0 - 1) → Accepted w p
 accept-it {w} r {p} m near =
     record {
       world = _;
-      reach = next r (accepts m (delivery w r p m .1 near) (taken r m));
+      reach = next r (accepts m (delivered r m .1 near) (taken r m));
       sender = refl;
       largest = refl;
       sent = refl;
@@ -100,7 +100,7 @@ pub record Heard (w : World) (n : ℕ) : Type 0 where
   pub before : World
   pub told : Reach before
   pub world : World
-  pub step : Step before world
+  pub step : LineStep before world
   pub same : before .sender ≡ w .sender
   pub sender : world .sender ≡ record { next = w .sender .next; acked = largerOf (w .sender .acked) n; largest = w .sender .largest }
   pub receiver : world .receiver ≡ w .receiver
@@ -156,10 +156,15 @@ pub record Misread (w : World) (p : Packet) : Type 0 where
   pub reads : readBy (w .receiver) (p .carries) ≡ ok other
   pub differs : other ≡ p .number → ⊥
 
-misread : {w : World} → Reach w → {p : Packet} → List·Memᴰ p (w .sent) → (Near (w .receiver .largest) (p .number) (p .carries .0) → ⊥) → Misread w p
+misread : {w : World} → Reach w → {p : Packet} → List·Memᴰ p (w .sent) → p .number + 2 ^ (8 * p .carries .0 - 1) ≤ expectedOf (w .receiver .largest) → Misread w p
 misread {w} r {p} m far =
     let q = sym (reads r m) in
-    record { other = _; reads = q; differs = λ e. far (delivery w r p m .0 (q ∙ ap ok e)) }
+    record { other = _; reads = q; differs = λ e. let near = delivered r m .0 (q ∙ ap ok e) in absurd (omega (arith, far, near)) }
+
+-- where nothing is accepted yet, every packet is near
+nothing-yet : {l : SoFar} → l ≡ none → (n j : ℕ) → expectedOf l < n + 2 ^ j
+unfolding expectedOf
+nothing-yet e n j = rw e (omega (arith, one-le-pow j 2 (omega arith)))
 
 -- 2^31 packets with nothing acknowledged
 first-half : More freshWorld (2 ^ 31)
@@ -167,7 +172,7 @@ unfolding baseOf
 first-half = more start (2 ^ 31) (omega arith) (omega arith)
 
 pub runs-rightly : (k : ℕ) → 1 ≤ k → k ≤ 4 → Shown k Rightly
-unfolding baseOf Near
+unfolding baseOf
 runs-rightly k p q =
     let a = first-half in
     let m = a .adds (least k) (omega (arith, least-small k q)) in
@@ -180,16 +185,16 @@ runs-rightly k p q =
       packet = packet 0 (least k);
       sent = s;
       takes = least-takes k p q;
-      so = delivery (a .world) (a .reach) (packet 0 (least k)) s .1 (rw n tt);
+      so = delivered (a .reach) s .1 (nothing-yet n _ _);
     }
 
 -- the last of them is accepted and heard of; as many again are sent, and the last of those is accepted
 first-taken : Accepted (first-half .world) (packet 0 (2 ^ 31 - 1))
-unfolding baseOf Near
+unfolding baseOf
 first-taken =
     let a = first-half in
     let n : a .world .receiver .largest ≡ none = ap (λ (e : Ends). e .largest) (a .receiver) in
-    accept-it (a .reach) (a .adds (2 ^ 31 - 1) (omega arith)) (rw n tt)
+    accept-it (a .reach) (a .adds (2 ^ 31 - 1) (omega arith)) (nothing-yet n _ _)
 
 first-heard : Heard (first-taken .world) (2 ^ 31 - 1)
 first-heard = hear-it (first-taken .reach) (first-taken .accepted)
@@ -222,7 +227,7 @@ last-packet : Packet
 last-packet = packet (baseOf (first-heard .world .sender .acked)) (first-heard .world .sender .next + (2 ^ 31 - 2))
 
 second-taken : Accepted (second-half .world) last-packet
-unfolding Near last-packet
+unfolding expectedOf last-packet
 second-taken =
     let n : second-half .world .receiver .largest ≡ at (2 ^ 31 - 1) = ap (λ (e : Ends). e .largest) (second-half .receiver) ∙ largest-then in
     accept-it (second-half .reach) (second-half .adds (2 ^ 31 - 2) (omega arith)) (rw n (omega (arith, next-then)))
@@ -241,15 +246,13 @@ kept {p} m =
     rw (second-taken .sent) (second-half .keeps n)
 
 pub runs-misread : (k : ℕ) → 1 ≤ k → k ≤ 4 → Shown k Misread
-unfolding baseOf Near
+unfolding baseOf expectedOf
 runs-misread k p q =
     let z : 0 + least k ≡ least k = omega arith in
     let m = first-half .adds (least k) (omega (arith, least-small k q)) in
     let s = kept (rw z at m) in
-    let far : Near (second-taken .world .receiver .largest) (least k) (bytesFor (2 * (least k - 0))) → ⊥ =
-    λ x.
-    let y : 2 ^ 32 - 2 ≤ least k + (2 ^ (8 * k - 1) - 2) = rw (largest-last, least-takes k p q) at x in
-    omega (arith, y, least-small k q, pow-mono {i = 8 * k - 1} {j = 31} (omega arith)) in
+    let far : least k + 2 ^ (8 * bytesFor (2 * (least k - 0)) - 1) ≤ expectedOf (second-taken .world .receiver .largest) =
+    rw (largest-last, least-takes k p q) (omega (arith, least-small k q, pow-mono {i = 8 * k - 1} {j = 31} (omega arith))) in
     record {
       world = second-taken .world;
       reach = second-taken .reach;
@@ -265,7 +268,7 @@ pub record Shortens : Type 0 where
   pub before : World
   pub reach : Reach before
   pub after : World
-  pub step : Step before after
+  pub step : LineStep before after
   pub two : sendBy (before .sender) .says ≡ ok (record { number = 128; carries = cut 2 128 })
   pub one : sendBy (after .sender) .says ≡ ok (record { number = 128; carries = cut 1 128 })
 
@@ -275,10 +278,10 @@ unfolding baseOf
 few = more start 128 (omega arith) (omega arith)
 
 few-taken : Accepted (few .world) (packet 0 127)
-unfolding baseOf Near
+unfolding baseOf
 few-taken =
     let n : few .world .receiver .largest ≡ none = ap (λ (e : Ends). e .largest) (few .receiver) in
-    accept-it (few .reach) (few .adds 127 (omega arith)) (rw n tt)
+    accept-it (few .reach) (few .adds 127 (omega arith)) (nothing-yet n _ _)
 
 few-heard : Heard (few-taken .world) 127
 few-heard = hear-it (few-taken .reach) (few-taken .accepted)

@@ -1,5 +1,5 @@
--- The whole way: encode, the Length step, encryption of the payload, the mask step, split and finish. Assumes nothing.
-use Prim.Native.Nat.{ℕ, _+_, _-_, _/_, _%_, _^_, _≤_, _<_}
+-- The whole way: encode, the Length step, encryption of the payload, the mask step, split and finish.
+use Prim.Native.Nat.{ℕ, _+_, _-_, _/_, _^_, _≤_, _<_}
 use mathlib.Core.Path.{_≡_, refl, sym, ap, _∙_}
 use mathlib.Core.List.{List, [], _∷_, _++_, append-nil}
 use mathlib.Core.Bool.{Bool, true, false}
@@ -7,36 +7,37 @@ use mathlib.Core.Option.{none, some}
 use native.Mathlib.Nat.{mod-eq-of-lt}
 use native.Mathlib.Omega.{arith}
 use lib.Bits.{bitXor}
-use lib.ListN.{length, take, drop, length-append}
-use lib.Seq.{take-at, drop-at}
+use lib.ListN.{length, drop, length-append}
+use lib.Seq.{drop-at}
 use borrow.Author.Tests.{le-ltb, le-leb}
 use Rattle.coding.specs.Words.{if_then_else_, andThen, no, ok}
-use Rattle.coding.specs.Bytes.{byteAt, be, bytesBE}
+use Rattle.coding.specs.Bytes.{byteAt}
 use Rattle.coding.specs.Places.{partOf}
 use Rattle.coding.specs.declared.Place.{Place}
 use Rattle.coding.proofs.Laws.{length-bytesBE, take-some}
-use Rattle.coding.proofs.Back.{be-bytes, part-back}
+use Rattle.coding.proofs.Back.{part-back}
+use Rattle.shared.specs.FirstByte.{longHeaderForm}
 use Rattle.shared.specs.declared.cid.ConnectionId.{ConnectionId}
 use Rattle.shared.specs.declared.kinds.CutNumber.{CutNumber}
-use Rattle.number.specs.Cutting.{windowOf, isCut}
-use Rattle.number.proofs.Windows.{cut-rule, bytes-power}
+use Rattle.number.specs.Cutting.{isCut, tagLength}
+use Rattle.number.proofs.Cuts.{first-back}
 use Rattle.packet.specs.Header as read
 use Rattle.packet.specs.Header.{Outcome, outside, headerAt, headed, lengthIn}
 use Rattle.packet.specs.Split.{splitAt, splitOn, splitBy, cutAt}
 use Rattle.packet.specs.TypeBits.{typeOf, bitsOf}
-use Rattle.protect.specs.Protection.{xor, numberLen, numberMask, firstMask, applied}
+use Rattle.protect.specs.Protection.{xor, numberMask, firstMask, applied}
 use Rattle.protect.specs.Tests.{inSize, headerTests}
 use Rattle.protect.specs.Steps.{opened, finishAt, finished, maskAt, readOff, payloadPlace}
 use Rattle.protect.proofs.Back.{ThereAndBack, there-and-back, number-back, length-applied}
 use Rattle.protect.proofs.Cases.{mask-ok, mask-none}
-use Rattle.packet_out.specs.Encoding.{Plain, initial, zeroRtt, handshake, retry, short, negotiate, numberIn, bit, shapeBy, lengthBytes, numberField, headerBy, headerBytes, headerOut, numberKeeps, placeholder}
+use Rattle.packet_out.specs.Encoding.{Plain, initial, zeroRtt, handshake, retry, short, negotiate, plainNumber, shapeBy, lengthBytes, numberField, writtenHeader, headerBytes, headerOut, numberKeeps, placeholder}
 use Rattle.packet_out.specs.Length.{lengthField, lengthSet}
 use Rattle.packet_out.specs.Back.{readAs, kindRead, tokenPlace, endRead, Readable, Typed, openedAs}
 use Rattle.packet_out.proofs.Laws.{length-shape, set-none}
-use Rattle.packet_out.proofs.Back.{upTo, header-back}
+use Rattle.packet_out.proofs.HeaderBack.{upTo, header-back}
 use Rattle.packet.proofs.Types.{table}
-use Rattle.packet_out.proofs.Again.{reads-length, first-steers, header-then, WasWritten, was-written, encode-back, token-back}
-use Rattle.packet_out.proofs.Sent.{length-field, sets, number-len, offset, passes, upToNumber, numbered, length-header, masked-steers, first-written, masked-shape}
+use Rattle.packet_out.proofs.EncodedBack.{reads-length, first-steers, header-then, WasWritten, was-written, encode-back, token-back}
+use Rattle.packet_out.proofs.LengthAndMask.{length-field, sets, number-len, offset, passes, upToNumber, numbered, length-header, masked-steers, first-written, masked-shape}
 
 -- ---- split
 
@@ -72,16 +73,6 @@ split-whole p dst src token s n m local versions grease e f =
 
 -- ---- the whole way
 
--- the number's bytes, where they stand
-value-back : (c : CutNumber) (past : List ℕ) → isCut c ≡ true → be 0 (take (c .0) (numberField (some c) ++ past)) ≡ c .1
-unfolding numberField
-value-back c past k =
-    let r = cut-rule c k in
-    let t : take (c .0) (bytesBE (c .0) (c .1) ++ past) ≡ bytesBE (c .0) (c .1) = take-at (bytesBE (c .0) (c .1)) past (c .0) (length-bytesBE (c .0) (c .1)) in
-    let w : windowOf (c .0) ≡ 256 ^ c .0 = r .window .is ∙ bytes-power (c .0) in
-    let v : c .1 % 256 ^ c .0 ≡ c .1 = mod-eq-of-lt (rw w at (r .value)) in
-    rw t (be-bytes (c .0) 0 (c .1) ∙ rw v (omega arith))
-
 length-if : (b : Bool) (n : ℕ) → length (lengthBytes b (lengthField n)) ≡ (if b then 2 else 0)
 unfolding lengthBytes if_then_else_
 length-if true n = length-field n
@@ -100,7 +91,7 @@ pub record Arrives (p : Plain) (c : CutNumber) (dst src : ConnectionId) (token b
   pub says : readOff (finished true (shapeBy bitsOf p .hasLength) (endRead p dst src token 2)) (finishAt true (shapeBy bitsOf p .hasLength) sent (endRead p dst src token 2) mask) ≡ ok (openedAs p)
   pub carried : partOf (header ++ sealed) (payloadPlace (endRead p dst src token 2) (some (c .0)) (length (header ++ sealed))) ≡ sealed
 
-module _ (p : Plain) (c : CutNumber) (is : numberIn p ≡ some c) (dst src : ConnectionId) (token payload sealed mask : List ℕ) (local : ℕ) (versions : List ℕ) (grease : Bool)
+module _ (p : Plain) (c : CutNumber) (is : plainNumber p ≡ some c) (dst src : ConnectionId) (token payload sealed mask : List ℕ) (local : ℕ) (versions : List ℕ) (grease : Bool)
     (w : WasWritten p dst src token (headerBytes p dst src token)) (y : Typed p dst src) (d : Readable p dst local versions grease) (short-cid : local ≤ 20) (few : length versions ≤ 16)
     (big : length (headerBytes p dst src token) + length payload ≤ 65527) (fits : shapeBy bitsOf p .hasLength ≡ true → c .0 + length payload < 2 ^ 14)
     (same : length sealed ≡ length payload) (reach : 20 ≤ c .0 + length payload) where
@@ -115,7 +106,7 @@ module _ (p : Plain) (c : CutNumber) (is : numberIn p ≡ some c) (dst src : Con
   field = lengthField n
 
   abbrev written : List ℕ
-  written = headerBy bitsOf field p dst src token
+  written = writtenHeader bitsOf field p dst src token
 
   abbrev long : Bool
   long = shapeBy bitsOf p .hasLength
@@ -125,17 +116,17 @@ module _ (p : Plain) (c : CutNumber) (is : numberIn p ≡ some c) (dst src : Con
 
   -- the number stands where reading ends
   at-is : length (headerBytes p dst src token) ≡ at + c .0
-  unfolding endRead headerBy
+  unfolding endRead writtenHeader
   at-is =
       let e = length-header p dst src token placeholder (lengthField n) (length-bytesBE 2 0 ∙ sym (length-field n)) in
-      omega (arith, e, length-shape (lengthField n) (shapeBy bitsOf p) (numberIn p) dst src token, number-len p dst src token c is, length-if (shapeBy bitsOf p .hasLength) n)
+      omega (arith, e, length-shape (lengthField n) (shapeBy bitsOf p) (plainNumber p) dst src token, number-len p dst src token c is, length-if (shapeBy bitsOf p .hasLength) n)
 
   same-length : length written ≡ length (headerBytes p dst src token)
   same-length = length-header p dst src token field placeholder (length-field n ∙ sym (length-bytesBE 2 0))
 
   -- the packet: its first byte, what stands up to the number, the number, the payload
-  packet-is : written ++ sealed ≡ shapeBy bitsOf p .first ∷ (upToNumber p dst src token field ++ (numberField (numberIn p) ++ sealed))
-  packet-is = header-then bitsOf field p dst src token sealed ∙ ap (λ (l : List ℕ). shapeBy bitsOf p .first ∷ l) (numbered p dst src token field (numberField (numberIn p) ++ sealed))
+  packet-is : written ++ sealed ≡ shapeBy bitsOf p .first ∷ (upToNumber p dst src token field ++ (numberField (plainNumber p) ++ sealed))
+  packet-is = header-then bitsOf field p dst src token sealed ∙ ap (λ (l : List ℕ). shapeBy bitsOf p .first ∷ l) (numbered p dst src token field (numberField (plainNumber p) ++ sealed))
 
   packet-long : length (written ++ sealed) ≡ at + n
   packet-long = length-append written sealed ∙ omega (arith, same-length, at-is, same)
@@ -148,13 +139,13 @@ module _ (p : Plain) (c : CutNumber) (is : numberIn p ≡ some c) (dst src : Con
   hidden = bitXor (shapeBy bitsOf p .first) (firstMask long (byteAt mask 0))
 
   past : List ℕ
-  past = xor (numberMask (numberLen (shapeBy bitsOf p .first)) mask) (numberField (numberIn p) ++ sealed)
+  past = xor (numberMask (tagLength (shapeBy bitsOf p .first)) mask) (numberField (plainNumber p) ++ sealed)
 
   sent-is : applied long mask at (written ++ sealed) ≡ hidden ∷ upTo bitsOf p dst src token field past
   unfolding applied hidden past
   sent-is =
       rw (packet-is, numbered p dst src token field past)
-      (masked-shape long mask at (numberLen (shapeBy bitsOf p .first)) (shapeBy bitsOf p .first) (upToNumber p dst src token field) (numberField (numberIn p) ++ sealed) number-at)
+      (masked-shape long mask at (tagLength (shapeBy bitsOf p .first)) (shapeBy bitsOf p .first) (upToNumber p dst src token field) (numberField (plainNumber p) ++ sealed) number-at)
 
   byte-zero : byteAt (written ++ sealed) 0 ≡ shapeBy bitsOf p .first
   byte-zero = rw packet-is
@@ -168,11 +159,11 @@ module _ (p : Plain) (c : CutNumber) (is : numberIn p ≡ some c) (dst src : Con
   back : ThereAndBack (length (headerBytes p dst src token)) (c .0) long (written ++ sealed) mask
   back =
       there-and-back (length (headerBytes p dst src token)) (c .0) long (written ++ sealed) mask tests (omega (arith, packet-long, at-is, reach))
-      (ap (λ (x : ℕ). x / 0x80) byte-zero ∙ first-written p c is cut .form)
+      (ap (λ (x : ℕ). x / longHeaderForm) byte-zero ∙ first-written p c is cut .form)
 
   sent-same : back .sent ≡ applied long mask at (written ++ sealed)
   sent-same =
-      let m = mask-ok (length (headerBytes p dst src token)) (c .0) long (written ++ sealed) mask tests (le-leb (length (headerBytes p dst src token) - c .0 + 4 + 16) (length (written ++ sealed)) (omega (arith, packet-long, at-is, reach))) (ap (λ (x : ℕ). x / 0x80) byte-zero ∙ first-written p c is cut .form) in
+      let m = mask-ok (length (headerBytes p dst src token)) (c .0) long (written ++ sealed) mask tests (le-leb (length (headerBytes p dst src token) - c .0 + 4 + 16) (length (written ++ sealed)) (omega (arith, packet-long, at-is, reach))) (ap (λ (x : ℕ). x / longHeaderForm) byte-zero ∙ first-written p c is cut .form) in
       let e : ok (back .sent) ≡ ok (applied long mask (length (headerBytes p dst src token) - c .0) (written ++ sealed)) = sym (back .masks) ∙ m in
       let f : back .sent ≡ applied long mask (length (headerBytes p dst src token) - c .0) (written ++ sealed) = cc in
       f ∙ rw offset-is
@@ -192,11 +183,12 @@ module _ (p : Plain) (c : CutNumber) (is : numberIn p ≡ some c) (dst src : Con
       (masked-steers p c (byteAt mask 0) is (first-steers bitsOf p (w .kept .cut))) (λ h. reads-length n (fits h)) (w .few) (w .kept) y d (rw sent-shape at o))
 
   number-read : opened long at (written ++ sealed) ≡ openedAs p
+  unfolding numberField
   number-read =
       let f = first-written p c is cut in
       let d : drop at (written ++ sealed) ≡ numberField (some c) ++ sealed =
       rw (packet-is, is) (drop-at (shapeBy bitsOf p .first ∷ upToNumber p dst src token field) (numberField (some c) ++ sealed) at (omega (arith, number-at))) in
-      number-back long at (c .0) (written ++ sealed) (rw byte-zero (f .len)) ∙ rw (byte-zero, d, value-back c sealed cut) (f .says)
+      number-back long at (c .0) (written ++ sealed) (rw byte-zero (f .len)) ∙ rw (byte-zero, d, first-back c sealed cut) (f .says)
 
   payload-read : partOf (written ++ sealed) (payloadPlace at (some (c .0)) (length (written ++ sealed))) ≡ sealed
   payload-read =
@@ -220,7 +212,7 @@ module _ (p : Plain) (c : CutNumber) (is : numberIn p ≡ some c) (dst src : Con
       }
 
 -- and so of any header that encode writes
-pub whole-way : (p : Plain) (c : CutNumber) → numberIn p ≡ some c → (dst src : ConnectionId) (token bs payload sealed mask : List ℕ) (local : ℕ) (versions : List ℕ) (grease : Bool)
+pub whole-way : (p : Plain) (c : CutNumber) → plainNumber p ≡ some c → (dst src : ConnectionId) (token bs payload sealed mask : List ℕ) (local : ℕ) (versions : List ℕ) (grease : Bool)
     → headerOut p dst src token ≡ ok bs → Typed p dst src → Readable p dst local versions grease → local ≤ 20 → length versions ≤ 16
     → length bs + length payload ≤ 65527 → (shapeBy bitsOf p .hasLength ≡ true → c .0 + length payload < 2 ^ 14)
     → length sealed ≡ length payload → 20 ≤ c .0 + length payload
@@ -237,8 +229,8 @@ pub record Stays (p : Plain) (dst src : ConnectionId) (token bs rest mask : List
   pub splits : splitAt (bs ++ rest) local versions grease ≡ cutAt (readAs p dst src token 0 1) (bs ++ rest) (length (bs ++ rest))
   pub finishes : (long : Bool) → finishAt false long (bs ++ rest) (endRead p dst src token 1) mask ≡ ok (bs ++ rest)
 
-no-length : (p : Plain) → numberIn p ≡ none → shapeBy bitsOf p .hasLength ≡ false
-unfolding numberIn shapeBy
+no-length : (p : Plain) → plainNumber p ≡ none → shapeBy bitsOf p .hasLength ≡ false
+unfolding plainNumber shapeBy
 no-length (initial c v) e = let z : _≡_ {A = ℕ} 0 1 = cc in absurd (omega arith)
 no-length (zeroRtt c v) e = let z : _≡_ {A = ℕ} 0 1 = cc in absurd (omega arith)
 no-length (handshake c v) e = let z : _≡_ {A = ℕ} 0 1 = cc in absurd (omega arith)
@@ -246,15 +238,15 @@ no-length (retry v) e = refl
 no-length (short spin phase c) e = let z : _≡_ {A = ℕ} 0 1 = cc in absurd (omega arith)
 no-length (negotiate random) e = refl
 
-pub bare-way : (p : Plain) → numberIn p ≡ none → (dst src : ConnectionId) (token bs rest mask : List ℕ) (local : ℕ) (versions : List ℕ) (grease : Bool)
+pub bare-way : (p : Plain) → plainNumber p ≡ none → (dst src : ConnectionId) (token bs rest mask : List ℕ) (local : ℕ) (versions : List ℕ) (grease : Bool)
     → headerOut p dst src token ≡ ok bs → Typed p dst src → Readable p dst local versions grease → local ≤ 20 → length versions ≤ 16
     → length bs + length rest ≤ 65527 → Stays p dst src token bs rest mask local versions grease
-unfolding headerTests finishAt inSize if_then_else_ headerBy
+unfolding headerTests finishAt inSize if_then_else_ writtenHeader
 bare-way p is dst src token bs rest mask local versions grease e y d a b big =
     let w = was-written p dst src token bs e in
     let n = no-length p is in
     let all : length (bs ++ rest) ≡ length bs + length rest = length-append bs rest in
-    let one : 1 ≤ length bs = rw (w .is) (omega (arith, length-shape placeholder (shapeBy bitsOf p) (numberIn p) dst src token)) in
+    let one : 1 ≤ length bs = rw (w .is) (omega (arith, length-shape placeholder (shapeBy bitsOf p) (plainNumber p) dst src token)) in
     let t : headerTests (length bs) none false (length (bs ++ rest)) ≡ true =
     rw (le-leb (length (bs ++ rest)) 65527 (omega (arith, all, big)), le-leb (length bs) (length (bs ++ rest)) (omega (arith, all)), le-leb 1 (length bs) one) in
     let o : outside (bs ++ rest) local versions ≡ false = inside (bs ++ rest) local versions (omega (arith, all, big)) a b in
@@ -267,6 +259,6 @@ bare-way p is dst src token bs rest mask local versions grease e y d a b big =
     }
 
 -- Version Negotiation gives its bits back, where they are below the form bit
-pub random-back : (random : ℕ) (token : Place) (len : ℕ) → random < 0x80 → kindRead (negotiate random) token len ≡ read.negotiate random
+pub random-back : (random : ℕ) (token : Place) (len : ℕ) → random < longHeaderForm → kindRead (negotiate random) token len ≡ read.negotiate random
 unfolding kindRead
 random-back random token len h = ap read.negotiate (mod-eq-of-lt h)

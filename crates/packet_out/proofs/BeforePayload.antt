@@ -1,4 +1,4 @@
--- The header before a payload, over lent connection ids: with encode's placeholder, and with its Length. Assumes nothing.
+-- The header before a payload, over lent connection ids: with encode's placeholder, and with its Length.
 use Prim.Native.Nat.{ℕ, _+_, _^_, _≤_, _<_}
 use mathlib.Core.Path.{_≡_, refl, ap, _∙_}
 use mathlib.Core.List.{List, _∷_}
@@ -16,11 +16,11 @@ use Rattle.shared.specs.declared.kinds.CutNumber.{CutNumber}
 use Rattle.shared.proofs.Laws.{length-cid}
 use Rattle.shared.proofs.Back.{cid-same}
 use Rattle.packet.specs.TypeBits.{bitsOf}
-use Rattle.packet_out.specs.Encoding.{Plain, numberIn, shapeBy, shapeBytes, namesBytes, headerBy, headerBytes, placeholder, keepRules, inHeader, headerOut}
+use Rattle.packet_out.specs.Encoding.{Plain, plainNumber, shapeBy, shapeBytes, namesBytes, writtenHeader, headerBytes, placeholder, keepRules, inHeader, headerOut}
 use Rattle.packet_out.specs.Length.{lengthField}
 use Rattle.packet_out.specs.Before.{roomy, headerBefore, numberSize, lengthFits, fieldFor, fits, headerWith}
 use Rattle.packet_out.proofs.Laws.{lent-long}
-use Rattle.packet_out.proofs.Sent.{without}
+use Rattle.packet_out.proofs.LengthAndMask.{without}
 
 -- ---- with its Length
 
@@ -38,7 +38,7 @@ module _ (p : Plain) (dst src : ConnectionId) (token : List ℕ) (n : ℕ) where
   with-not h = rw (h, and-false (roomy p dst src token n))
 
   same-header : (b : Bool) (m : ℕ) → shapeBy bitsOf p .hasLength ≡ b
-      → headerBy bitsOf (bytesBE 2 (fieldFor b m)) p dst src token ≡ headerBy bitsOf (lengthField m) p dst src token
+      → writtenHeader bitsOf (bytesBE 2 (fieldFor b m)) p dst src token ≡ writtenHeader bitsOf (lengthField m) p dst src token
   unfolding fieldFor lengthField if_then_else_
   same-header true m e = refl
   same-header false m e = without p dst src token (bytesBE 2 0) (bytesBE 2 (2 ^ 14 + m)) e
@@ -76,7 +76,7 @@ module _ (p : Plain) (dst src : ConnectionId) (token : List ℕ) where
     names-same (some v) = rw (long-same dst to, long-same src from)
 
     header-same : headerBytes p (cidOf (cidBytes dst)) (cidOf (cidBytes src)) token ≡ headerBytes p dst src token
-    unfolding headerBy shapeBytes
+    unfolding writtenHeader shapeBytes
     header-same = rw (names-same (shapeBy bitsOf p .version))
 
     rules-same : (number : Option CutNumber) → keepRules number (cidOf (cidBytes dst)) (cidOf (cidBytes src)) ≡ keepRules number dst src
@@ -85,4 +85,4 @@ module _ (p : Plain) (dst src : ConnectionId) (token : List ℕ) where
 
     pub out-lent : headerBefore placeholder p (cidOf (cidBytes dst)) (cidOf (cidBytes src)) token 0 ≡ headerOut p dst src token
     unfolding headerBefore roomy headerOut inHeader
-    out-lent = rw (header-same, rules-same (numberIn p), add-zero) (both (keepRules (numberIn p) dst src) (leb (length (headerBytes p dst src token)) 65527) _ _)
+    out-lent = rw (header-same, rules-same (plainNumber p), add-zero) (both (keepRules (plainNumber p) dst src) (leb (length (headerBytes p dst src token)) 65527) _ _)

@@ -1,5 +1,5 @@
 -- A written header is read back, whatever stands past it, and whatever the bits of its first byte that do not steer: once over
--- any pair of a table of types and its inverse. Assumes nothing.
+-- any pair of a table of types and its inverse.
 use Prim.Native.Nat.{ℕ, _+_, _*_, _/_, _%_, _^_, _≤_, _<_}
 use mathlib.Core.Path.{_≡_, refl, ap, _∙_}
 use mathlib.Core.List.{List, [], _∷_, _++_, append-assoc}
@@ -17,6 +17,7 @@ use Rattle.coding.specs.Reading.{fixedAt, takeAt}
 use Rattle.coding.specs.Varint.{varBytes, varSize}
 use Rattle.coding.proofs.Laws.{length-var}
 use Rattle.coding.proofs.Back.{part-back}
+use Rattle.shared.specs.FirstByte.{longHeaderForm, fixedBit}
 use Rattle.shared.specs.Cid.{cidOf, cidOn, cidBytes, longBytes}
 use Rattle.shared.specs.declared.cid.ConnectionId.{ConnectionId}
 use Rattle.shared.proofs.Laws.{length-cid}
@@ -24,7 +25,7 @@ use Rattle.packet.specs.Header.{outside, unfixed, listed, headed, tailAt, bodyA
 use Rattle.packet.specs.Header as read
 use Rattle.packet.specs.TypeBits.{PacketType}
 use Rattle.packet.specs.TypeBits as type
-use Rattle.packet_out.specs.Encoding.{Plain, initial, zeroRtt, handshake, retry, short, negotiate, numberIn, bit, shapeBy, namesBytes, tokenBytes, lengthBytes}
+use Rattle.packet_out.specs.Encoding.{Plain, initial, zeroRtt, handshake, retry, short, negotiate, plainNumber, bitIf, shapeBy, namesBytes, tokenBytes, lengthBytes}
 use Rattle.packet_out.specs.Back.{kindRead, versionRead, srcRead, tokenPlace, endRead, readAs, Readable, Typed}
 use Rattle.packet_out.proofs.Laws.{Kept, length-names}
 use Rattle.packet_out.proofs.Fields.{ReadsAs, take-here, names-back, initial-back, length-back}
@@ -95,7 +96,7 @@ module _ (types : ℕ → PacketType) (dst src : ConnectionId) (to : dst .len �
 
 -- ---- any kind
 
-greased : (b random : ℕ) (grease : Bool) → b ≡ 0x80 + random % 0x80 → (grease ≡ true) ⊎ (random / 0x40 % 2 ≡ 1) → unfixed b grease ≡ false
+greased : (b random : ℕ) (grease : Bool) → b ≡ longHeaderForm + random % longHeaderForm → (grease ≡ true) ⊎ (random / fixedBit % 2 ≡ 1) → unfixed b grease ≡ false
 unfolding unfixed
 greased b random grease e = ⊎-elim (λ g. rw g) (λ h. fixed-set b grease (omega (arith, e, h)))
 
@@ -105,16 +106,16 @@ Steers bits (initial c v) b = b / 16 ≡ 12 + bits type.initial
 Steers bits (zeroRtt c v) b = b / 16 ≡ 12 + bits type.zeroRtt
 Steers bits (handshake c v) b = b / 16 ≡ 12 + bits type.handshake
 Steers bits (retry v) b = b / 16 ≡ 12 + bits type.retry
-Steers bits (short spin phase c) b = b / 32 ≡ 2 + bit spin 1
-Steers bits (negotiate random) b = b ≡ 0x80 + random % 0x80
+Steers bits (short spin phase c) b = b / 32 ≡ 2 + bitIf spin 1
+Steers bits (negotiate random) b = b ≡ longHeaderForm + random % longHeaderForm
 
-pub bit-small : (spin : Bool) → bit spin 1 ≤ 1
-unfolding bit if_then_else_
+pub bit-small : (spin : Bool) → bitIf spin 1 ≤ 1
+unfolding bitIf if_then_else_
 bit-small true = omega arith
 bit-small false = omega arith
 
-spin-bit : (spin : Bool) (x : ℕ) → x ≡ 2 + bit spin 1 → eqb (x % 2) 1 ≡ spin
-unfolding bit if_then_else_
+spin-bit : (spin : Bool) (x : ℕ) → x ≡ 2 + bitIf spin 1 → eqb (x % 2) 1 ≡ spin
+unfolding bitIf if_then_else_
 spin-bit true x e = eq-eqb (x % 2) 1 (omega (arith, e))
 spin-bit false x e = ne-eqb (x % 2) 1 (λ z. omega (arith, e, z))
 
@@ -139,7 +140,7 @@ module _ (types : ℕ → PacketType) (bits : PacketType → ℕ) (inverse : (t 
       long-back =
           typed types dst src to from allTo allFrom b v thirtyTwo q local versions grease o (fixed-set b grease (omega (arith, e, two t))) (omega (arith, e)) t (steered t b e) l z
 
-    pub header-back : (p : Plain) (b : ℕ) → Steers bits p b → (shapeBy bits p .hasLength ≡ true → ReadsAs field n m) → (shapeBy bits p .hasToken ≡ true → length token < 2 ^ 62) → Kept (numberIn p) dst src → Typed p dst src → Readable p dst local versions grease
+    pub header-back : (p : Plain) (b : ℕ) → Steers bits p b → (shapeBy bits p .hasLength ≡ true → ReadsAs field n m) → (shapeBy bits p .hasToken ≡ true → length token < 2 ^ 62) → Kept (plainNumber p) dst src → Typed p dst src → Readable p dst local versions grease
         → outside (b ∷ upTo bits p dst src token field past) local versions ≡ false
         → read.headerBy types (b ∷ upTo bits p dst src token field past) local versions grease ≡ readAs p dst src token n m
     unfolding Steers Readable upTo shapeBy readAs kindRead versionRead srcRead tokenPlace endRead tokenBytes lengthBytes if_then_else_ tailAt
@@ -162,7 +163,7 @@ module _ (types : ℕ → PacketType) (bits : PacketType → ℕ) (inverse : (t 
         long-back (k .to) (k .from) (y .to) (y .from) b v (y .version) type.retry e (d .0) (d .1) _ o
         ∙ ap (λ (z : ℕ). headed (cidOf (cidBytes dst)) (cidOf (cidBytes src)) v read.retry z) (omega arith)
     header-back (short spin phase c) b e r small k y d o =
-        let f : bit spin 1 ≤ 1 = bit-small spin in
+        let f : bitIf spin 1 ≤ 1 = bit-small spin in
         rw d
         (short-back types dst src (k .to) (y .to) b _ versions grease (rw d at o) (fixed-set b grease (omega (arith, e, f))) (omega (arith, e, f))
         ∙ rw (spin-bit spin (b / 32) e) (ap (λ (z : ℕ). headed (cidOf (cidBytes dst)) (cidOf []) 0 (read.short spin) z) (omega arith)))

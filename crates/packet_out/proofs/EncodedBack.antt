@@ -1,5 +1,4 @@
 -- What encode writes is read back: before the Length step, with its two bytes of 0 read as a Length of 0 in one byte, and after it.
--- Assumes nothing.
 use Prim.Native.Nat.{ℕ, _+_, _*_, _/_, _%_, _^_, _≤_, _<_}
 use mathlib.Core.Path.{_≡_, refl, sym, ap, _∙_}
 use mathlib.Core.List.{List, _∷_, _++_, append-assoc}
@@ -15,18 +14,20 @@ use Rattle.coding.specs.Places.{partOf}
 use Rattle.coding.specs.Varint.{varLen, varAt, varTag, varSize, varBytes}
 use Rattle.coding.proofs.Laws.{length-var}
 use Rattle.coding.proofs.Back.{part-back, var-back}
+use Rattle.shared.specs.FirstByte.{fixedBit, spinBit, keyPhaseBit}
 use Rattle.shared.specs.declared.cid.ConnectionId.{ConnectionId}
 use Rattle.shared.specs.declared.kinds.CutNumber.{CutNumber}
+use Rattle.number.specs.Cutting.{lengthBits}
 use Rattle.packet.specs.Header.{outside, headerAt}
 use Rattle.packet.specs.TypeBits.{PacketType, typeOf, bitsOf}
 use Rattle.packet.specs.TypeBits as type
 use Rattle.packet.proofs.Types.{table}
-use Rattle.packet_out.specs.Encoding.{Plain, initial, zeroRtt, handshake, retry, short, negotiate, numberIn, bit, lowBits, longFirst, shortFirst, shapeBy, shapeBytes, namesBytes, tokenBytes, lengthBytes, numberField, headerBy, headerBytes, headerOut, inHeader, keepRules, numberKeeps, placeholder}
+use Rattle.packet_out.specs.Encoding.{Plain, initial, zeroRtt, handshake, retry, short, negotiate, plainNumber, bitIf, longFirst, shortFirst, shapeBy, shapeBytes, namesBytes, tokenBytes, lengthBytes, numberField, writtenHeader, headerBytes, headerOut, inHeader, keepRules, numberKeeps, placeholder}
 use Rattle.packet_out.specs.Length.{lengthField}
 use Rattle.packet_out.specs.Back.{readAs, tokenPlace, Readable, Typed}
 use Rattle.packet_out.proofs.Laws.{Kept, kept, cut-short, length-shape, length-token, fits-seen}
 use Rattle.packet_out.proofs.Fields.{ReadsAs}
-use Rattle.packet_out.proofs.Back.{Steers, upTo, header-back}
+use Rattle.packet_out.proofs.HeaderBack.{Steers, upTo, header-back}
 
 -- ---- the Length's two bytes
 
@@ -50,12 +51,12 @@ reads-length n h p q = two-bytes p q ((2 ^ 14 + n) / 256 ^ 1 % 256) ((2 ^ 14 + n
 
 -- ---- the first byte that is written steers
 
-pub low-small : (c : CutNumber) → numberKeeps (some c) ≡ true → lowBits c < 4
+pub low-small : (c : CutNumber) → numberKeeps (some c) ≡ true → lengthBits c < 4
 unfolding numberKeeps
 low-small c e = omega (arith, cut-short c e)
 
-short-steers : (spin phase : Bool) (low : ℕ) → low < 4 → (0x40 + bit spin 0x20 + bit phase 0x04 + low) / 32 ≡ 2 + bit spin 1
-unfolding bit if_then_else_
+short-steers : (spin phase : Bool) (low : ℕ) → low < 4 → (fixedBit + bitIf spin spinBit + bitIf phase keyPhaseBit + low) / 32 ≡ 2 + bitIf spin 1
+unfolding bitIf if_then_else_
 short-steers true true low h = omega (arith, h)
 short-steers true false low h = omega (arith, h)
 short-steers false true low h = omega (arith, h)
@@ -67,33 +68,33 @@ module _ (bits : PacketType → ℕ) where
   unfolding longFirst
   long-steers t low h = omega (arith, h)
 
-  pub first-steers : (p : Plain) → numberKeeps (numberIn p) ≡ true → Steers bits p (shapeBy bits p .first)
-  unfolding Steers shapeBy numberIn shortFirst
-  first-steers (initial c v) k = long-steers type.initial (lowBits c) (omega (arith, low-small c k))
-  first-steers (zeroRtt c v) k = long-steers type.zeroRtt (lowBits c) (omega (arith, low-small c k))
-  first-steers (handshake c v) k = long-steers type.handshake (lowBits c) (omega (arith, low-small c k))
+  pub first-steers : (p : Plain) → numberKeeps (plainNumber p) ≡ true → Steers bits p (shapeBy bits p .first)
+  unfolding Steers shapeBy plainNumber shortFirst
+  first-steers (initial c v) k = long-steers type.initial (lengthBits c) (omega (arith, low-small c k))
+  first-steers (zeroRtt c v) k = long-steers type.zeroRtt (lengthBits c) (omega (arith, low-small c k))
+  first-steers (handshake c v) k = long-steers type.handshake (lengthBits c) (omega (arith, low-small c k))
   first-steers (retry v) k = let e : longFirst (bits type.retry) ≡ longFirst (bits type.retry) + 0 = omega arith in rw e (long-steers type.retry 0 (omega arith))
-  first-steers (short spin phase c) k = short-steers spin phase (lowBits c) (low-small c k)
+  first-steers (short spin phase c) k = short-steers spin phase (lengthBits c) (low-small c k)
   first-steers (negotiate random) k = refl
 
 -- ---- what encode writes
 
 -- a header, and what follows it
 pub header-then : (bits : PacketType → ℕ) (field : List ℕ) (p : Plain) (dst src : ConnectionId) (token rest : List ℕ)
-    → headerBy bits field p dst src token ++ rest ≡ shapeBy bits p .first ∷ upTo bits p dst src token field (numberField (numberIn p) ++ rest)
-unfolding headerBy shapeBytes upTo
+    → writtenHeader bits field p dst src token ++ rest ≡ shapeBy bits p .first ∷ upTo bits p dst src token field (numberField (plainNumber p) ++ rest)
+unfolding writtenHeader shapeBytes upTo
 header-then bits field p dst src token rest = ap (λ (l : List ℕ). shapeBy bits p .first ∷ l) (simp append-assoc)
 
 -- what is known of a header that was written
 pub record WasWritten (p : Plain) (dst src : ConnectionId) (token bs : List ℕ) : Type 0 where
-  pub kept : Kept (numberIn p) dst src
+  pub kept : Kept (plainNumber p) dst src
   pub short : length bs ≤ 65527
   pub is : bs ≡ headerBytes p dst src token
   pub few : shapeBy bitsOf p .hasToken ≡ true → length token < 2 ^ 62
 
 pub was-written : (p : Plain) (dst src : ConnectionId) (token bs : List ℕ) → headerOut p dst src token ≡ ok bs → WasWritten p dst src token bs
-unfolding headerOut headerBy if_then_else_
-was-written p dst src token bs = go (keepRules (numberIn p) dst src) refl
+unfolding headerOut writtenHeader if_then_else_
+was-written p dst src token bs = go (keepRules (plainNumber p) dst src) refl
   where
     all : List ℕ
     all = headerBytes p dst src token
@@ -101,12 +102,12 @@ was-written p dst src token bs = go (keepRules (numberIn p) dst src) refl
     few : length all ≤ 65527 → shapeBy bitsOf p .hasToken ≡ true → length token < 2 ^ 62
     few l h =
         let t : length (tokenBytes (shapeBy bitsOf p .hasToken) token) ≡ varSize (length token) + length token = rw h (length-token token) in
-        omega (arith, l, t, length-shape placeholder (shapeBy bitsOf p) (numberIn p) dst src token)
+        omega (arith, l, t, length-shape placeholder (shapeBy bitsOf p) (plainNumber p) dst src token)
 
-    go : (b : Bool) → keepRules (numberIn p) dst src ≡ b → _≡_ {A = Answer (List ℕ)} (if b then inHeader all all else no 14) (ok bs) → WasWritten p dst src token bs
+    go : (b : Bool) → keepRules (plainNumber p) dst src ≡ b → _≡_ {A = Answer (List ℕ)} (if b then inHeader all all else no 14) (ok bs) → WasWritten p dst src token bs
     go true k h =
         let f = fits-seen all all bs h in
-        record { kept = kept (numberIn p) dst src k; short = rw (← f .1) (f .0); is = sym (f .1); few = few (f .0) }
+        record { kept = kept (plainNumber p) dst src k; short = rw (← f .1) (f .0); is = sym (f .1); few = few (f .0) }
     go false k h = let z : _≡_ {A = ℕ} 0 1 = cc in absurd (omega arith)
 
 -- 01: what encode writes, decode reads back, whatever follows it
@@ -115,10 +116,10 @@ pub encode-back : (p : Plain) (dst src : ConnectionId) (token bs rest : List ℕ
     → headerAt (bs ++ rest) local versions grease ≡ readAs p dst src token 0 1
 encode-back p dst src token bs rest local versions grease e y d o =
     let w = was-written p dst src token bs e in
-    let s : bs ++ rest ≡ shapeBy bitsOf p .first ∷ upTo bitsOf p dst src token placeholder (numberField (numberIn p) ++ rest) =
+    let s : bs ++ rest ≡ shapeBy bitsOf p .first ∷ upTo bitsOf p dst src token placeholder (numberField (plainNumber p) ++ rest) =
     ap (λ (l : List ℕ). l ++ rest) (w .is) ∙ header-then bitsOf placeholder p dst src token rest in
     rw s
-    (header-back typeOf bitsOf (table .back) (table .two) dst src token placeholder 0 1 (numberField (numberIn p) ++ rest) local versions grease p
+    (header-back typeOf bitsOf (table .back) (table .two) dst src token placeholder 0 1 (numberField (plainNumber p) ++ rest) local versions grease p
     (shapeBy bitsOf p .first) (first-steers bitsOf p (w .kept .cut)) (λ h. reads-placeholder) (w .few) (w .kept) y d (rw s at o))
 
 -- and the token stands in its place

@@ -1,20 +1,23 @@
--- The runs of puts: what each leaves room for, and that together they put the whole. Assumes nothing.
-use Prim.Native.Nat.{ℕ, _+_, _/_, _%_, _≤_, _<_}
+-- The runs of puts: what each leaves room for, and that together they put the whole.
+use Prim.Native.Nat.{ℕ, _+_, _≤_, _<_}
 use mathlib.Core.Path.{_≡_}
 use mathlib.Core.List.{List, [], _∷_, _++_, append-assoc}
+use mathlib.Core.Bool.{true}
 use mathlib.Core.Option.{Option, some}
 use native.Mathlib.Omega.{arith}
 use lib.ListN.{length, length-append}
 use Rattle.coding.specs.Bytes.{bytesBE}
 use Rattle.coding.specs.Writing.{Put}
-use Rattle.coding.proofs.Laws.{length-splice, length-bytesBE}
+use Rattle.coding.proofs.Laws.{length-splice}
 use Rattle.coding.proofs.Writes.{So, put-fits, put-so, so-put}
 use Rattle.shared.specs.Cid.{cidOf, longBytes}
 use Rattle.shared.specs.declared.cid.ConnectionId.{ConnectionId}
 use Rattle.shared.specs.declared.kinds.CutNumber.{CutNumber}
 use Rattle.shared.proofs.Laws.{one-byte}
+use Rattle.number.specs.Cutting.{isCut, cutPut}
+use Rattle.number.proofs.Cuts.{put-in}
 use Rattle.packet_out.specs.Encoding.{Shape, namesBytes, tokenBytes, lengthBytes, numberField, shapeBytes}
-use Rattle.packet_out.proofs.Laws.{length-shape, length-number, number-one, number-two, number-three, number-four, lent-long}
+use Rattle.packet_out.proofs.Laws.{length-shape, lent-long}
 
 -- where a run of puts stands: its place, and a buffer as long as before
 pub record Stands (old bs : List ℕ) (at r : ℕ) (new : List ℕ) : Type 0 where
@@ -37,31 +40,14 @@ module _ (bs : List ℕ) {old m₁ : List ℕ} {at r₁ : ℕ} (few : length bs 
   at-bytes : So old at (length bs ∷ []) r₁ m₁
   at-bytes = put-so _ _ _ (omega (arith, long-room)) (rw (one-byte (length bs) (omega (arith, few))) at p)
 
-  pub bytes-room : r₁ + length bs ≤ length m₁
-  bytes-room = let s = stands at-bytes (omega (arith, long-room)) in omega (arith, s, long-room)
-
   pub long-run : {new : List ℕ} {next : ℕ} → Put bs m₁ r₁ next new → Put (longBytes (cidOf bs)) old at next new
   long-run q = rw (lent-long bs) (put-fits _ _ _ (omega (arith, long-room)) (so-put at-bytes (omega (arith, long-room)) q))
 
--- ---- a number, by its length
+-- ---- a number that keeps its rule
 
-module _ (c : CutNumber) {old new : List ℕ} {at next : ℕ} where
-  pub number-run-one : c .0 ≡ 1 → Put (bytesBE 1 (c .1 % 0x100)) old at next new → Put (numberField (some c)) old at next new
-  number-run-one e p = rw (number-one c e) p
-
-  pub number-run-two : c .0 ≡ 2 → Put (bytesBE 2 (c .1 % 0x10000)) old at next new → Put (numberField (some c)) old at next new
-  number-run-two e p = rw (number-two c e) p
-
-  pub number-run-four : c .0 ≡ 4 → Put (bytesBE 4 (c .1)) old at next new → Put (numberField (some c)) old at next new
-  number-run-four e p = rw (number-four c e) p
-
-pub number-run-three : (c : CutNumber) → c .0 ≡ 3 → {old mid new : List ℕ} {at r next : ℕ} → at + length (numberField (some c)) ≤ length old
-    → Put (bytesBE 1 (c .1 / 0x10000 % 0x100)) old at r mid → Put (bytesBE 2 (c .1 % 0x10000)) mid r next new → Put (numberField (some c)) old at next new
-number-run-three c e room p q =
-    let a = length-bytesBE 1 (c .1 / 0x10000 % 0x100) in
-    let b = length-bytesBE 2 (c .1 % 0x10000) in
-    let l = length-number c in
-    rw (number-three c e) (put-fits _ _ _ (rw (number-three c e) at room) (so-put (put-so _ _ _ (omega (arith, room, e, l, a)) p) (omega (arith, room, e, l, a, b)) q))
+pub number-run : (c : CutNumber) {old new : List ℕ} {at next : ℕ} → isCut c ≡ true → Put (cutPut c) old at next new → Put (numberField (some c)) old at next new
+unfolding numberField
+number-run c e p = rw (put-in c e) at p
 
 -- ---- the version and both connection ids
 
@@ -124,9 +110,6 @@ module _ (a b d e f : List ℕ) {old m₁ : List ℕ} {r₁ : ℕ}
       four : So old 0 (((a ++ b) ++ d) ++ e) r₄ m₄
       four = so-put (so-put two (omega (arith, fits, two-long)) t) (omega (arith, fits, three-long)) l
 
-      pub after-four : r₄ + length f ≤ length m₄
-      after-four = let s = stands four (omega (arith, fits, four-long)) in omega (arith, s, fits, four-long)
-
       pub after-five : {new : List ℕ} {next : ℕ} → Put f m₄ r₄ next new → Put (a ++ (b ++ (d ++ (e ++ f)))) old 0 next new
       after-five n = put-fits _ _ _ (omega (arith, fits, all-long)) (rw (run-five a b d e f) at (so-put four (omega (arith, fits, four-long)) n))
 
@@ -149,9 +132,6 @@ module _ (field : List ℕ) (shape : Shape) (number : Option CutNumber) (dst src
     token-room = after-two (shape .first ∷ []) (namesBytes (shape .version) dst src) (tokenBytes (shape .hasToken) token) (lengthBytes (shape .hasLength) field) (numberField number) fits first q
 
     module _ {m₃ m₄ : List ℕ} {r₃ r₄ : ℕ} (t : Put (tokenBytes (shape .hasToken) token) m₂ r₂ r₃ m₃) (l : Put (lengthBytes (shape .hasLength) field) m₃ r₃ r₄ m₄) where
-      pub number-room : r₄ + length (numberField number) ≤ length m₄
-      number-room = after-four (shape .first ∷ []) (namesBytes (shape .version) dst src) (tokenBytes (shape .hasToken) token) (lengthBytes (shape .hasLength) field) (numberField number) fits first q t l
-
       pub header-put : {new : List ℕ} {next : ℕ} → Put (numberField number) m₄ r₄ next new → Put (shapeBytes field shape number dst src token) old 0 next new
       unfolding shapeBytes
       header-put n = after-five (shape .first ∷ []) (namesBytes (shape .version) dst src) (tokenBytes (shape .hasToken) token) (lengthBytes (shape .hasLength) field) (numberField number) fits first q t l n

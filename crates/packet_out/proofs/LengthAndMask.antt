@@ -1,12 +1,11 @@
 -- A header with a number on its way out: the Length step sets its Length and nothing else, the mask step leaves the bits that steer.
--- Assumes nothing.
 use Prim.Native.Nat.{ℕ, _+_, _-_, _*_, _/_, _%_, _^_, _≤_, _<_}
 use mathlib.Core.Path.{_≡_, refl, sym, ap, _∙_}
 use mathlib.Core.List.{List, _∷_, _++_, append-assoc}
 use mathlib.Core.Bool.{Bool, true, false}
 use mathlib.Core.Option.{some}
 use native.Mathlib.Omega.{arith}
-use lib.Bits.{bitXor, xor-shr, xor-zero-r}
+use lib.Bits.{bitAnd, bitXor, and-high, xor-shr, xor-zero-r}
 use lib.Dec.{eqb}
 use lib.ListN.{length, take, drop, length-append}
 use lib.Seq.{take-at, drop-at, drop-append-add}
@@ -14,20 +13,21 @@ use borrow.Author.Tests.{le-leb, eq-eqb}
 use Rattle.coding.specs.Words.{if_then_else_, ok}
 use Rattle.coding.specs.Bytes.{byteAt, splice}
 use Rattle.coding.proofs.Laws.{length-bytesBE}
+use Rattle.shared.specs.FirstByte.{longHeaderForm, fixedBit, spinBit, keyPhaseBit, longReservedBits, shortReservedBits}
 use Rattle.shared.specs.declared.cid.ConnectionId.{ConnectionId}
 use Rattle.shared.specs.declared.kinds.CutNumber.{CutNumber}
-use Rattle.number.specs.Cutting.{isCut}
+use Rattle.number.specs.Cutting.{isCut, lengthBits, tagLength}
 use Rattle.packet.specs.TypeBits.{PacketType, bitsOf}
 use Rattle.packet.specs.TypeBits as type
-use Rattle.protect.specs.Protection.{xor, xorAt, numberLen, numberMask, firstMask, masked}
+use Rattle.protect.specs.Protection.{xor, xorAt, numberMask, firstMask, masked}
 use Rattle.protect.specs.Tests.{formBit, headerTests}
 use Rattle.protect.specs.Steps as protect
 use Rattle.protect.specs.Steps.{openedBy}
-use Rattle.packet_out.specs.Encoding.{Plain, initial, zeroRtt, handshake, retry, short, negotiate, numberIn, bit, lowBits, longFirst, shortFirst, shapeBy, shapeBytes, namesBytes, tokenBytes, lengthBytes, numberField, headerBy, headerBytes, placeholder}
+use Rattle.packet_out.specs.Encoding.{Plain, initial, zeroRtt, handshake, retry, short, negotiate, plainNumber, bitIf, longFirst, shortFirst, shapeBy, shapeBytes, namesBytes, tokenBytes, lengthBytes, numberField, writtenHeader, headerBytes, placeholder}
 use Rattle.packet_out.specs.Length.{lengthField, lengthSet}
 use Rattle.packet_out.specs.Back.{openedAs}
 use Rattle.packet_out.proofs.Laws.{cut-short, length-shape, length-fields, length-number, set-none, set-on, into-ok}
-use Rattle.packet_out.proofs.Back.{Steers, upTo, bit-small}
+use Rattle.packet_out.proofs.HeaderBack.{Steers, upTo, bit-small}
 use Rattle.packet.proofs.Types.{table}
 
 -- ---- the Length, in its place
@@ -53,12 +53,12 @@ module _ (p : Plain) (dst src : ConnectionId) (token : List ℕ) where
       namesBytes (shapeBy bitsOf p .version) dst src ++ (tokenBytes (shapeBy bitsOf p .hasToken) token ++ lengthBytes (shapeBy bitsOf p .hasLength) field)
 
   with-length : (field : List ℕ) → shapeBy bitsOf p .hasLength ≡ true
-      → headerBy bitsOf field p dst src token ≡ before ++ (field ++ numberField (numberIn p))
-  unfolding before headerBy shapeBytes lengthBytes if_then_else_
+      → writtenHeader bitsOf field p dst src token ≡ before ++ (field ++ numberField (plainNumber p))
+  unfolding before writtenHeader shapeBytes lengthBytes if_then_else_
   with-length field h = rw h (ap (λ (l : List ℕ). shapeBy bitsOf p .first ∷ l) (simp append-assoc))
 
-  pub without : (x y : List ℕ) → shapeBy bitsOf p .hasLength ≡ false → headerBy bitsOf x p dst src token ≡ headerBy bitsOf y p dst src token
-  unfolding headerBy shapeBytes lengthBytes if_then_else_
+  pub without : (x y : List ℕ) → shapeBy bitsOf p .hasLength ≡ false → writtenHeader bitsOf x p dst src token ≡ writtenHeader bitsOf y p dst src token
+  unfolding writtenHeader shapeBytes lengthBytes if_then_else_
   without x y h = rw h
 
   pub numbered : (field past : List ℕ) → upTo bitsOf p dst src token field past ≡ upToNumber field ++ past
@@ -66,25 +66,25 @@ module _ (p : Plain) (dst src : ConnectionId) (token : List ℕ) where
   numbered field past = simp append-assoc
 
   -- lengths
-  pub length-header : (x y : List ℕ) → length x ≡ length y → length (headerBy bitsOf x p dst src token) ≡ length (headerBy bitsOf y p dst src token)
-  unfolding headerBy
-  length-header x y = length-fields x y (shapeBy bitsOf p) (numberIn p) dst src token
+  pub length-header : (x y : List ℕ) → length x ≡ length y → length (writtenHeader bitsOf x p dst src token) ≡ length (writtenHeader bitsOf y p dst src token)
+  unfolding writtenHeader
+  length-header x y = length-fields x y (shapeBy bitsOf p) (plainNumber p) dst src token
 
-  module _ (c : CutNumber) (is : numberIn p ≡ some c) where
-    pub number-len : length (numberField (numberIn p)) ≡ c .0
+  module _ (c : CutNumber) (is : plainNumber p ≡ some c) where
+    pub number-len : length (numberField (plainNumber p)) ≡ c .0
     number-len = rw is (length-number c)
 
     -- the number's offset
-    pub offset : (field : List ℕ) → length (headerBy bitsOf field p dst src token) ≡ 1 + length (upToNumber field) + c .0
-    unfolding headerBy upToNumber
+    pub offset : (field : List ℕ) → length (writtenHeader bitsOf field p dst src token) ≡ 1 + length (upToNumber field) + c .0
+    unfolding writtenHeader upToNumber
     offset field =
         let l : length (namesBytes (shapeBy bitsOf p .version) dst src ++ (tokenBytes (shapeBy bitsOf p .hasToken) token ++ lengthBytes (shapeBy bitsOf p .hasLength) field))
         ≡ length (namesBytes (shapeBy bitsOf p .version) dst src) + (length (tokenBytes (shapeBy bitsOf p .hasToken) token) + length (lengthBytes (shapeBy bitsOf p .hasLength) field)) = simp length-append in
-        omega (arith, l, number-len, length-shape field (shapeBy bitsOf p) (numberIn p) dst src token)
+        omega (arith, l, number-len, length-shape field (shapeBy bitsOf p) (plainNumber p) dst src token)
 
     -- with a Length, two bytes stand before the number
-    room : (field : List ℕ) → shapeBy bitsOf p .hasLength ≡ true → length (headerBy bitsOf field p dst src token) ≡ length before + (length field + c .0)
-    room field h = ap length (with-length field h) ∙ rw (length-append before (field ++ numberField (numberIn p)), length-append field (numberField (numberIn p)), number-len)
+    room : (field : List ℕ) → shapeBy bitsOf p .hasLength ≡ true → length (writtenHeader bitsOf field p dst src token) ≡ length before + (length field + c .0)
+    room field h = ap length (with-length field h) ∙ rw (length-append before (field ++ numberField (plainNumber p)), length-append field (numberField (plainNumber p)), number-len)
 
     -- the header that was written passes the steps' tests
     pub passes : (b : Bool) (len : ℕ) → shapeBy bitsOf p .hasLength ≡ b → isCut c ≡ true → length (headerBytes p dst src token) ≤ len → len ≤ 65527
@@ -103,7 +103,7 @@ module _ (p : Plain) (dst src : ConnectionId) (token : List ℕ) where
     pub sets : (b : Bool) (payload : List ℕ) → shapeBy bitsOf p .hasLength ≡ b → isCut c ≡ true → length (headerBytes p dst src token) + length payload ≤ 65527
         → (b ≡ true → c .0 + length payload < 2 ^ 14)
         → lengthSet (length (headerBytes p dst src token)) (some (c .0)) b (headerBytes p dst src token ++ payload)
-        ≡ ok (headerBy bitsOf (lengthField (c .0 + length payload)) p dst src token ++ payload)
+        ≡ ok (writtenHeader bitsOf (lengthField (c .0 + length payload)) p dst src token ++ payload)
     sets true payload h k big few =
         let n : ℕ = c .0 + length payload in
         let hl : ℕ = length (headerBytes p dst src token) in
@@ -111,9 +111,9 @@ module _ (p : Plain) (dst src : ConnectionId) (token : List ℕ) where
         let r = room placeholder h in
         let two : length placeholder ≡ 2 = length-bytesBE 2 0 in
         let t = passes true (length (headerBytes p dst src token ++ payload)) h k (omega (arith, all)) (omega (arith, all, big)) in
-        let s : splice (headerBytes p dst src token ++ payload) (hl - c .0 - 2) (lengthField n) ≡ headerBy bitsOf (lengthField n) p dst src token ++ payload =
-        rw (with-length placeholder h, with-length (lengthField n) h, append-assoc before (placeholder ++ numberField (numberIn p)) payload, append-assoc placeholder (numberField (numberIn p)) payload, append-assoc before (lengthField n ++ numberField (numberIn p)) payload, append-assoc (lengthField n) (numberField (numberIn p)) payload)
-        (splice-mid before placeholder (lengthField n) (numberField (numberIn p) ++ payload) _ (omega (arith, r, two, ap length (with-length placeholder h))) (two ∙ sym (length-field n))) in
+        let s : splice (headerBytes p dst src token ++ payload) (hl - c .0 - 2) (lengthField n) ≡ writtenHeader bitsOf (lengthField n) p dst src token ++ payload =
+        rw (with-length placeholder h, with-length (lengthField n) h, append-assoc before (placeholder ++ numberField (plainNumber p)) payload, append-assoc placeholder (numberField (plainNumber p)) payload, append-assoc before (lengthField n ++ numberField (plainNumber p)) payload, append-assoc (lengthField n) (numberField (plainNumber p)) payload)
+        (splice-mid before placeholder (lengthField n) (numberField (plainNumber p) ++ payload) _ (omega (arith, r, two, ap length (with-length placeholder h))) (two ∙ sym (length-field n))) in
         set-on hl (some (c .0)) true (headerBytes p dst src token ++ payload) t (c .0) refl refl
         ∙ into-ok hl (c .0) (headerBytes p dst src token ++ payload) n (omega (arith, all)) (few refl)
         ∙ ap ok s
@@ -131,71 +131,75 @@ four b m = let z : m % 16 / 16 ≡ 0 = omega arith in xor-shr b (m % 16) 4 ∙ r
 five : (b m : ℕ) → bitXor b (m % 32) / 32 ≡ b / 32
 five b m = let z : m % 32 / 32 ≡ 0 = omega arith in xor-shr b (m % 32) 5 ∙ rw z (xor-zero-r (b / 32))
 
-pub masked-steers : (p : Plain) (c : CutNumber) (m : ℕ) → numberIn p ≡ some c → Steers bitsOf p (shapeBy bitsOf p .first)
+pub masked-steers : (p : Plain) (c : CutNumber) (m : ℕ) → plainNumber p ≡ some c → Steers bitsOf p (shapeBy bitsOf p .first)
     → Steers bitsOf p (bitXor (shapeBy bitsOf p .first) (firstMask (shapeBy bitsOf p .hasLength) m))
-unfolding Steers shapeBy numberIn
-masked-steers (initial c v) d m is e = four (longFirst (bitsOf type.initial) + lowBits c) m ∙ e
-masked-steers (zeroRtt c v) d m is e = four (longFirst (bitsOf type.zeroRtt) + lowBits c) m ∙ e
-masked-steers (handshake c v) d m is e = four (longFirst (bitsOf type.handshake) + lowBits c) m ∙ e
+unfolding Steers shapeBy plainNumber
+masked-steers (initial c v) d m is e = four (longFirst (bitsOf type.initial) + lengthBits c) m ∙ e
+masked-steers (zeroRtt c v) d m is e = four (longFirst (bitsOf type.zeroRtt) + lengthBits c) m ∙ e
+masked-steers (handshake c v) d m is e = four (longFirst (bitsOf type.handshake) + lengthBits c) m ∙ e
 masked-steers (retry v) d m is e = let z : _≡_ {A = ℕ} 0 1 = cc in absurd (omega arith)
-masked-steers (short spin phase c) d m is e = five (shortFirst spin phase + lowBits c) m ∙ e
+masked-steers (short spin phase c) d m is e = five (shortFirst spin phase + lengthBits c) m ∙ e
 masked-steers (negotiate random) d m is e = let z : _≡_ {A = ℕ} 0 1 = cc in absurd (omega arith)
 
 -- ---- the first byte of a header with a number: its form, the number's length, and what finish says by it
 
 pub record First (p : Plain) (c : CutNumber) : Type 0 where
-  pub form : shapeBy bitsOf p .first / 0x80 ≡ formBit (shapeBy bitsOf p .hasLength)
-  pub len : numberLen (shapeBy bitsOf p .first) ≡ c .0
-  pub says : openedBy (shapeBy bitsOf p .hasLength) (shapeBy bitsOf p .first) (c .1) ≡ openedAs p
+  pub form : shapeBy bitsOf p .first / longHeaderForm ≡ formBit (shapeBy bitsOf p .hasLength)
+  pub len : tagLength (shapeBy bitsOf p .first) ≡ c .0
+  pub says : openedBy (shapeBy bitsOf p .hasLength) (shapeBy bitsOf p .first) c ≡ openedAs p
 
-bit-is : (b : Bool) (x : ℕ) → bit b x ≡ bit b 1 * x
-unfolding bit if_then_else_
+bit-is : (b : Bool) (x : ℕ) → bitIf b x ≡ bitIf b 1 * x
+unfolding bitIf if_then_else_
 bit-is true x = omega arith
 bit-is false x = omega arith
 
-bit-one : (b : Bool) → eqb (bit b 1) 1 ≡ b
-unfolding bit if_then_else_
+bit-one : (b : Bool) → eqb (bitIf b 1) 1 ≡ b
+unfolding bitIf if_then_else_
 bit-one true = refl
 bit-one false = refl
 
+-- two bits that are clear, as reserved bits are
+two-clear : (n k : ℕ) → n / 2 ^ k % 4 ≡ 0 → bitAnd n (2 ^ (2 + k) - 2 ^ k) ≡ 0
+two-clear n k h = and-high n 2 k ∙ rw h (omega arith)
+
 module _ (c : CutNumber) (k : isCut c ≡ true) where
-  low : lowBits c + 1 ≡ c .0
+  low : lengthBits c + 1 ≡ c .0
   low = omega (arith, cut-short c k)
 
-  long-len : (t : PacketType) → numberLen (longFirst (bitsOf t) + lowBits c) ≡ c .0
+  long-len : (t : PacketType) → tagLength (longFirst (bitsOf t) + lengthBits c) ≡ c .0
   unfolding longFirst
   long-len t = omega (arith, cut-short c k)
 
-  long-form : (t : PacketType) → (longFirst (bitsOf t) + lowBits c) / 0x80 ≡ 1
+  long-form : (t : PacketType) → (longFirst (bitsOf t) + lengthBits c) / longHeaderForm ≡ 1
   unfolding longFirst
   long-form t = omega (arith, cut-short c k, table .two t)
 
-  long-says : (t : PacketType) → openedBy true (longFirst (bitsOf t) + lowBits c) (c .1) ≡ protect.long (c .0) (c .1) true
+  long-says : (t : PacketType) → openedBy true (longFirst (bitsOf t) + lengthBits c) c ≡ protect.long (c .0) (c .1) true
   unfolding openedBy longFirst if_then_else_
   long-says t =
-      let z : (0xc0 + bitsOf t * 16 + lowBits c) / 4 % 4 ≡ 0 = omega (arith, cut-short c k) in
-      let l : (0xc0 + bitsOf t * 16 + lowBits c) % 4 + 1 ≡ c .0 = omega (arith, cut-short c k) in
-      rw (eq-eqb ((0xc0 + bitsOf t * 16 + lowBits c) / 4 % 4) 0 z, l)
+      let first : ℕ = longHeaderForm + fixedBit + bitsOf t * 16 + lengthBits c in
+      let z : first / 4 % 4 ≡ 0 = omega (arith, cut-short c k) in
+      rw (eq-eqb (bitAnd first longReservedBits) 0 (two-clear first 2 z))
 
   short-first : (spin phase : Bool) → First (short spin phase c) c
   unfolding shapeBy shortFirst openedBy openedAs if_then_else_
   short-first spin phase =
-      let s : bit spin 0x20 ≡ bit spin 1 * 0x20 = bit-is spin 0x20 in
-      let f : bit phase 0x04 ≡ bit phase 1 * 0x04 = bit-is phase 0x04 in
-      let first : ℕ = 0x40 + bit spin 0x20 + bit phase 0x04 + lowBits c in
-      let l : first % 4 + 1 ≡ c .0 = omega (arith, cut-short c k, s, f) in
-      let e₈ : first / 8 ≡ 8 + bit spin 1 * 4 = omega (arith, cut-short c k, s, f, bit-small phase) in
-      let e₄ : first / 4 ≡ 16 + bit spin 1 * 8 + bit phase 1 = omega (arith, cut-short c k, s, f) in
+      let s : bitIf spin spinBit ≡ bitIf spin 1 * spinBit = bit-is spin spinBit in
+      let f : bitIf phase keyPhaseBit ≡ bitIf phase 1 * keyPhaseBit = bit-is phase keyPhaseBit in
+      let first : ℕ = fixedBit + bitIf spin spinBit + bitIf phase keyPhaseBit + lengthBits c in
+      let l : tagLength first ≡ c .0 = omega (arith, cut-short c k, s, f) in
+      let e₈ : first / 8 ≡ 8 + bitIf spin 1 * 4 = omega (arith, cut-short c k, s, f, bit-small phase) in
+      let e₄ : first / 4 ≡ 16 + bitIf spin 1 * 8 + bitIf phase 1 = omega (arith, cut-short c k, s, f) in
       let z : first / 8 % 4 ≡ 0 = rw e₈ (omega arith) in
-      let q : first / 4 % 2 ≡ bit phase 1 = rw e₄ (omega (arith, bit-small phase)) in
+      let q : first / 4 % 2 ≡ bitIf phase 1 = rw e₄ (omega (arith, bit-small phase)) in
       record {
         form = omega (arith, cut-short c k, s, f, bit-small spin, bit-small phase);
         len = l;
-        says = rw (eq-eqb (first / 8 % 4) 0 z, l, q, bit-one phase);
+        says = rw (eq-eqb (bitAnd first shortReservedBits) 0 (two-clear first 3 z), q, bit-one phase);
       }
 
-pub first-written : (p : Plain) (c : CutNumber) → numberIn p ≡ some c → isCut c ≡ true → First p c
-unfolding shapeBy numberIn openedAs
+pub first-written : (p : Plain) (c : CutNumber) → plainNumber p ≡ some c → isCut c ≡ true → First p c
+unfolding shapeBy plainNumber openedAs
 first-written (initial c v) d is k =
     let e : c ≡ d = cc in
     rw e (record { form = long-form d k type.initial; len = long-len d k type.initial; says = long-says d k type.initial })
