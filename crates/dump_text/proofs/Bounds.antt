@@ -1,4 +1,4 @@
--- The text of a datagram fits into its room. Assumes nothing.
+-- The text of a datagram fits into its room.
 use mathlib.Core.Path.{_≡_, refl, sym, ap, _∙_}
 use mathlib.Core.List.{List, [], _∷_, _++_}
 use mathlib.Core.Bool.{Bool, true, false, _||_}

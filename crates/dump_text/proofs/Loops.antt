@@ -1,4 +1,4 @@
--- What one turn of the dump's loop does. Assumes nothing.
+-- What one turn of the dump's loop does.
 use mathlib.Core.Path.{_≡_, refl, sym, ap, _∙_}
 use mathlib.Core.List.{List, [], _∷_, _++_, append-assoc, append-nil}
 use mathlib.Core.Bool.{false}
@@ -12,7 +12,7 @@ use Rattle.coding.specs.Writing.{Put}
 use Rattle.coding.proofs.Laws.{length-splice}
 use Rattle.coding.proofs.Writes.{So, so-none, so-put}
 use Rattle.packet.specs.Walk.{Met}
-use Rattle.packet.proofs.Walks.{Meets, repeated, walk-steps, step-meets}
+use Rattle.packet.proofs.Walks.{repeated, walk-steps, step-inside}
 use Rattle.dump_text.specs.Dump.{linesOf, dumpText, dumpRoom, dumpOut, nextOf}
 use Rattle.dump_text.specs.Turns.{stepHere, lineAt, nextIn, placeIn}
 use Rattle.dump_text.specs.declared.Turn.{Turn}
@@ -79,7 +79,7 @@ going-start s old =
 pub moves : (s : List ℕ) (at next : ℕ) → some next ≡ nextOf (stepHere s at .met) → (at < next) × (next ≤ length s)
 moves s at next e =
     let p = next-some (stepHere s at .met) next e in
-    let m = step-meets s 0 (1 ∷ []) false at (p .start) (p .len) (p .is) in
+    let m = step-inside s 0 (1 ∷ []) false at (p .start) (p .len) (p .is) in
     omega (arith, m, p .end)
 
 -- a step's line is the first of what is left

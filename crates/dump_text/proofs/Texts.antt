@@ -1,4 +1,4 @@
--- What each step adds to the text. Assumes nothing.
+-- What each step adds to the text.
 use mathlib.Core.Path.{_≡_, refl, sym, ap, _∙_}
 use mathlib.Core.List.{List, [], _∷_, _++_, append-nil}
 use mathlib.Core.Bool.{false}

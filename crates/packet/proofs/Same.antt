@@ -1,5 +1,5 @@
 -- What a header's reading looks at: the bits of byte 0 that steer, and the bytes up to the header's end. Two datagrams of equal
--- length that agree there get equal answers, whatever the type bits mean. Assumes nothing.
+-- length that agree there get equal answers, whatever the type bits mean.
 use mathlib.Core.Path.{_≡_, refl, sym, ap, _∙_}
 use mathlib.Core.List.{List, [], _∷_}
 use mathlib.Core.Bool.{Bool, true, false}
@@ -9,21 +9,21 @@ use lib.ListN.{length, take, drop, getD, length-take, length-drop}
 use lib.Seq.{getD-take, getD-drop, ext-getD}
 use lib.Dec.{ltb, eqb}
 use borrow.Author.Tests.{ltb-true, ltb-false, lt-ltb, le-ltb, le-leb}
-use Rattle.coding.specs.Words.{if_then_else_, Got, cut, got, andThen, Answer, no, ok}
+use Rattle.coding.specs.Words.{if_then_else_, got, andThen, no, ok}
 use Rattle.coding.specs.Bytes.{byteAt, be}
 use Rattle.coding.specs.Places.{partOf}
 use Rattle.coding.specs.Reading.{fixedAt, takeAt}
 use Rattle.coding.specs.Varint.{varAt, varLen}
 use Rattle.coding.specs.declared.Place.{Place}
 use Rattle.coding.proofs.Laws.{fixed-inside, take-inside, var-inside, read-var}
-use Rattle.coding.proofs.Rules.{if-all, then-all}
-use Rattle.shared.specs.Cid.{longCidAt, cidOf, cidOn}
+use Rattle.coding.proofs.Rules.{then-all}
+use Rattle.shared.specs.Cid.{longCidAt, cidOn}
 use Rattle.shared.specs.declared.cid.ConnectionId.{ConnectionId}
 use Rattle.shared.proofs.Laws.{long-inside}
 use Rattle.packet.specs.TypeBits.{PacketType}
 use Rattle.packet.specs.TypeBits as type
 use Rattle.packet.specs.Header.{Header, initial, zeroRtt, handshake, retry, short, negotiate, Outcome, refuse, outside, unfixed, listed, headed, initialAt, lengthAt, tailAt, bodyAt, longAt, shortAt, firstAt, headerBy}
-use Rattle.packet.proofs.Within.{Within, body-within}
+use Rattle.packet.proofs.Within.{body-within}
 
 -- a refusal is no header
 refused-not : {P : Type 0} (k : ℕ) (h : Header) → refuse k .said ≡ ok h → P

@@ -1,23 +1,22 @@
--- The walk: repeating the step is the walk, and the walk covers the datagram. Assumes nothing.
+-- The walk: its packets lie in line in the datagram and cover it, and repeating the step is the walk.
 use mathlib.Core.Path.{_≡_, refl, sym, ap, _∙_}
 use mathlib.Core.List.{List, [], _∷_}
 use mathlib.Core.Bool.{Bool, true, false}
-use mathlib.Core.Option.{Option, none, some, Option·elim}
+use mathlib.Core.Option.{some, Option·elim}
 use Prim.Native.Nat.{ℕ, zero, suc, _+_, _-_, _≤_, _<_}
 use native.Mathlib.Omega.{arith}
 use lib.ListN.{length, drop, length-drop}
 use lib.Seq.{drop-drop}
-use lib.Dec.{ltb, leb, eqb}
+use lib.Dec.{ltb}
 use borrow.Author.Tests.{ltb-true, ltb-false, lt-leb, le-leb, eq-eqb, ne-eqb}
-use Rattle.coding.specs.Words.{if_then_else_, cut, andThen, Answer, no, ok}
-use Rattle.coding.specs.Reading.{fixedAt}
+use Rattle.coding.specs.Words.{if_then_else_, andThen, Answer, no, ok}
 use Rattle.coding.proofs.Laws.{fixed-none}
-use Rattle.packet.specs.TypeBits.{typeOf}
-use Rattle.packet.specs.Header.{Header, initial, zeroRtt, handshake, retry, short, negotiate, Outcome, refuse, outside, headerBy, headerAt}
-use Rattle.packet.specs.Split.{Split, noPacket, restAt, splitOn, splitAt}
+use Rattle.packet.specs.Header.{Header, initial, zeroRtt, handshake, retry, short, negotiate, refuse, outside, headerBy, headerAt}
+use Rattle.packet.specs.Split.{Split, noPacket, splitOn, splitAt}
 use Rattle.packet.specs.Walk.{Met, ended, packet, stopped, Step, metOn, stepOn, stopAt, walkFrom, walkAt, stepAt}
+use Rattle.packet.specs.Inside.{PacketInside, InLine, whole, refused, follows, StepsInside, WalksInside}
 use Rattle.packet.proofs.Within.{least}
-use Rattle.packet.proofs.Splits.{Taken, Refused, split-taken, split-refused, rest-some, rest-none}
+use Rattle.packet.proofs.Splits.{split-taken, split-refused, rest-some, rest-none}
 
 -- every header has a byte
 pub least-pos : (h : Header) → 0 < least h
@@ -63,7 +62,69 @@ module _ (local : ℕ) (versions : List ℕ) (grease : Bool) where
     unfolding walkFrom Option·elim
     walk-more turns start l = rw (split-taken s local versions grease h e .rest, rest-some s (size s) l)
 
--- ---- the packets and the refused tail make up the datagram
+-- ---- each packet of a walk stands where the one before it ended
+
+-- what is known of the packet that a split takes off, at a place of a datagram of n bytes
+took : (local : ℕ) (versions : List ℕ) (grease : Bool) (s : List ℕ) (h : Header) → first local versions grease s .header .said ≡ ok h
+    → (n start : ℕ) → start + length s ≤ n → PacketInside n start start (size local versions grease s) (first local versions grease s .header)
+took local versions grease s h e n start l =
+    let t = split-taken s local versions grease h e in
+    let p = least-pos h in
+    record { starts = refl; some = omega arith; inside = omega arith; header = t .past }
+
+module _ (local : ℕ) (versions : List ℕ) (grease : Bool) where
+  abbrev Lined : ℕ → ℕ → List ℕ → Type 0
+  Lined turns start s = InLine (start + length s) start (walkFrom turns start s local versions grease)
+
+  lined-no : (turns start : ℕ) (s : List ℕ) (k : ℕ) → first local versions grease s .header .said ≡ no k → Lined turns start s
+  lined-no turns start s k e = rw (walk-no local versions grease turns start s k e) (refused (met-no start (first local versions grease s) k e) (omega arith))
+
+  module _ (s : List ℕ) (h : Header) (e : first local versions grease s .header .said ≡ ok h) where
+    lined-last : (turns start : ℕ) → length s ≤ size local versions grease s → Lined turns start s
+    unfolding stepOn
+    lined-last turns start l =
+        let k = took local versions grease s h e (start + length s) start (omega arith) in
+        rw (walk-last local versions grease s h e turns start l) (follows (met-ok start (first local versions grease s) h e) k (whole {at = start + size local versions grease s} (omega arith)))
+
+    lined-more : (turns start : ℕ) → size local versions grease s < length s
+        → Lined turns (start + size local versions grease s) (drop (size local versions grease s) s) → Lined (suc turns) start s
+    unfolding stepOn
+    lined-more turns start l c =
+        let n : ℕ = size local versions grease s in
+        let d : length (drop n s) ≡ length s - n = length-drop n s in
+        let m : start + n + length (drop n s) ≡ start + length s = omega arith in
+        let k = took local versions grease s h e (start + length s) start (omega arith) in
+        rw (walk-more local versions grease s h e turns start l) (follows (met-ok start (first local versions grease s) h e) k (rw m at c))
+
+  -- one packet and what follows it
+  lined-one : (turns start : ℕ) (s : List ℕ) → ((n : ℕ) → 0 < n → n < length s → Lined turns (start + n) (drop n s)) → Lined (suc turns) start s
+  lined-one turns start s again = go (first local versions grease s .header .said) (ltb (size local versions grease s) (length s)) refl refl
+    where
+      go : (a : Answer Header) (b : Bool) → first local versions grease s .header .said ≡ a → ltb (size local versions grease s) (length s) ≡ b → Lined (suc turns) start s
+      go (no k) b e f = lined-no (suc turns) start s k e
+      go (ok h) false e f = lined-last s h e (suc turns) start (ltb-false _ _ f)
+      go (ok h) true e f =
+          let i : size local versions grease s < length s = ltb-true _ _ f in
+          let k = took local versions grease s h e (start + length s) start (omega arith) in
+          lined-more s h e turns start i (again (size local versions grease s) (k .some) i)
+
+  lined-none : (start : ℕ) (s : List ℕ) → length s ≤ 0 → Lined 0 start s
+  lined-none start s l = go (first local versions grease s .header .said) refl
+    where
+      go : (a : Answer Header) → first local versions grease s .header .said ≡ a → Lined 0 start s
+      go (no k) e = lined-no 0 start s k e
+      go (ok h) e = lined-last s h e 0 start (omega arith)
+
+  lined : (turns start : ℕ) (s : List ℕ) → length s ≤ turns → Lined turns start s
+  lined zero start s l = lined-none start s l
+  lined (suc turns) start s l =
+      lined-one turns start s (λ n p k. let d : length (drop n s) ≡ length s - n = length-drop n s in lined turns (start + n) (drop n s) (omega arith))
+
+pub walk-inside : WalksInside
+unfolding walkAt
+walk-inside s local versions grease = let z : 0 + length s ≡ length s = omega arith in rw z at (lined local versions grease (length s) 0 s (omega arith))
+
+-- ---- so the packets and the refused tail make up the datagram
 
 -- the bytes that a step accounts for in a datagram that ends at `total`
 abbrev pub bytesOf : ℕ → Met → ℕ
@@ -75,58 +136,14 @@ unfoldable pub covered : ℕ → List Step → ℕ
 covered total [] = 0
 covered total (x ∷ xs) = bytesOf total (x .met) + covered total xs
 
-module _ (local : ℕ) (versions : List ℕ) (grease : Bool) where
-  abbrev Covers : ℕ → ℕ → List ℕ → Type 0
-  Covers turns start s = covered (start + length s) (walkFrom turns start s local versions grease) ≡ length s
+line-covers : (n at : ℕ) (xs : List Step) → InLine n at xs → at + covered n xs ≡ n
+unfolding covered
+line-covers n at xs (whole e) = omega arith
+line-covers n at xs (refused e l) = rw e (omega arith)
+line-covers n at xs (follows {start = start} {len = len} {xs = ys} e k l) = rw e (omega (arith, k .starts, line-covers n (start + len) ys l))
 
-  covers-no : (turns start : ℕ) (s : List ℕ) (k : ℕ) → first local versions grease s .header .said ≡ no k → Covers turns start s
-  unfolding covered
-  covers-no turns start s k e = rw (walk-no local versions grease turns start s k e, met-no start (first local versions grease s) k e) (omega arith)
-
-  module _ (s : List ℕ) (h : Header) (e : first local versions grease s .header .said ≡ ok h) where
-    covers-last : (turns start : ℕ) → length s ≤ size local versions grease s → Covers turns start s
-    unfolding covered
-    covers-last turns start l =
-        let t = split-taken s local versions grease h e in
-        rw (walk-last local versions grease s h e turns start l, met-ok start (first local versions grease s) h e) (omega arith)
-
-    covers-more : (turns start : ℕ) → size local versions grease s < length s
-        → Covers turns (start + size local versions grease s) (drop (size local versions grease s) s) → Covers (suc turns) start s
-    unfolding covered
-    covers-more turns start l c =
-        let n : ℕ = size local versions grease s in
-        let d : length (drop n s) ≡ length s - n = length-drop n s in
-        let m : start + n + length (drop n s) ≡ start + length s = omega arith in
-        rw (walk-more local versions grease s h e turns start l, met-ok start (first local versions grease s) h e) (omega (arith, rw m at c))
-
-  -- one packet and what follows it
-  covers-one : (turns start : ℕ) (s : List ℕ) → ((n : ℕ) → 0 < n → n < length s → Covers turns (start + n) (drop n s)) → Covers (suc turns) start s
-  covers-one turns start s again = go (first local versions grease s .header .said) (ltb (size local versions grease s) (length s)) refl refl
-    where
-      go : (a : Answer Header) (b : Bool) → first local versions grease s .header .said ≡ a → ltb (size local versions grease s) (length s) ≡ b → Covers (suc turns) start s
-      go (no k) b e f = covers-no (suc turns) start s k e
-      go (ok h) false e f = covers-last s h e (suc turns) start (ltb-false _ _ f)
-      go (ok h) true e f =
-          let i : size local versions grease s < length s = ltb-true _ _ f in
-          let t = split-taken s local versions grease h e in
-          let p = least-pos h in
-          covers-more s h e turns start i (again (size local versions grease s) (omega arith) i)
-
-  covers-none : (start : ℕ) (s : List ℕ) → length s ≤ 0 → Covers 0 start s
-  covers-none start s l = go (first local versions grease s .header .said) refl
-    where
-      go : (a : Answer Header) → first local versions grease s .header .said ≡ a → Covers 0 start s
-      go (no k) e = covers-no 0 start s k e
-      go (ok h) e = covers-last s h e 0 start (omega arith)
-
-  covers : (turns start : ℕ) (s : List ℕ) → length s ≤ turns → Covers turns start s
-  covers zero start s l = covers-none start s l
-  covers (suc turns) start s l =
-      covers-one turns start s (λ n p k. let d : length (drop n s) ≡ length s - n = length-drop n s in covers turns (start + n) (drop n s) (omega arith))
-
-  pub walk-covers : (s : List ℕ) → covered (length s) (walkAt s local versions grease) ≡ length s
-  unfolding walkAt
-  walk-covers s = let z : 0 + length s ≡ length s = omega arith in rw z at (covers (length s) 0 s (omega arith))
+pub walk-covers : (local : ℕ) (versions : List ℕ) (grease : Bool) (s : List ℕ) → covered (length s) (walkAt s local versions grease) ≡ length s
+walk-covers local versions grease s = omega (arith, line-covers (length s) 0 (walkAt s local versions grease) (walk-inside s local versions grease))
 
 -- ---- repeating the step
 
@@ -244,49 +261,42 @@ module _ (s : List ℕ) (local : ℕ) (versions : List ℕ) (grease : Bool) wher
 
 -- ---- a packet that a step meets
 
-pub record Meets (s : List ℕ) (at start len : ℕ) : Type 0 where
-  pub starts : start ≡ at
-  pub some : 0 < len
-  pub inside : start + len ≤ length s
-
 module _ (s : List ℕ) (local : ℕ) (versions : List ℕ) (grease : Bool) (at start len : ℕ) where
-  on-meets : at < length s → (a : Answer Header) → splitAt (drop at s) local versions grease .header .said ≡ a
-      → stepOn at (splitAt (drop at s) local versions grease) .met ≡ packet start len → Meets s at start len
-  on-meets l (no k) e f =
-      let g : stopped at ≡ packet start len = sym (met-no at _ k e) ∙ f in
+  abbrev Met-inside : Step → Type 0
+  Met-inside x = x .met ≡ packet start len → PacketInside (length s) at start len (x .header)
+
+  on-inside : at < length s → (a : Answer Header) → splitAt (drop at s) local versions grease .header .said ≡ a
+      → Met-inside (stepOn at (splitAt (drop at s) local versions grease))
+  unfolding stepOn
+  on-inside l (no k) e f =
+      let g : stopped at ≡ packet start len = sym (met-no at (splitAt (drop at s) local versions grease) k e) ∙ f in
       let z : _≡_ {A = ℕ} 0 1 = cc in
       absurd (omega arith)
-  on-meets l (ok h) e f =
+  on-inside l (ok h) e f =
       let x : Split = splitAt (drop at s) local versions grease in
       let g : packet at (x .packet .len) ≡ packet start len = sym (met-ok at x h e) ∙ f in
       let i : at ≡ start = cc in
       let j : x .packet .len ≡ len = cc in
-      let u = split-taken (drop at s) local versions grease h e in
-      let p = least-pos h in
       let d : length (drop at s) ≡ length s - at = length-drop at s in
-      record { starts = omega arith; some = omega arith; inside = omega arith }
+      let k = took local versions grease (drop at s) h e (length s) at (omega arith) in
+      record { starts = sym i; some = omega (arith, k .some); inside = omega (arith, k .inside); header = rw j at (k .header) }
 
-  pub step-meets : stepAt s at local versions grease .met ≡ packet start len → Meets s at start len
+  -- a step that meets no packet
+  never : (x : Step) → stepAt s at local versions grease ≡ x → (x .met ≡ packet start len → ⊥) → Met-inside (stepAt s at local versions grease)
+  never x e n f = absurd (n (sym (ap (λ (y : Step). y .met) e) ∙ f))
+
+  step-in-line : (a b c : Bool) → outside s local versions ≡ a → ltb 0 (length s) ≡ b → ltb at (length s) ≡ c
+      → Met-inside (stepAt s at local versions grease)
   unfolding stopAt
-  step-meets = go (outside s local versions) (ltb 0 (length s)) (ltb at (length s)) refl refl refl
-    where
-      never : {m : Met} → stepAt s at local versions grease .met ≡ m → (m ≡ packet start len → ⊥) → stepAt s at local versions grease .met ≡ packet start len → Meets s at start len
-      never e n f = absurd (n (sym e ∙ f))
+  step-in-line true b c o f g = never _ (step-out s local versions grease at o) (λ e. let z : _≡_ {A = ℕ} 0 1 = cc in omega arith)
+  step-in-line false false c o f g =
+      let l : length s ≤ 0 = ltb-false _ _ f in
+      never _ (step-empty s local versions grease o at (omega arith)) (λ e. let z : _≡_ {A = ℕ} 0 1 = cc in omega arith)
+  step-in-line false true false o f g =
+      never _ (step-end s local versions grease o at (ltb-true _ _ f) (ltb-false _ _ g)) (λ e. let z : _≡_ {A = ℕ} 0 1 = cc in omega arith)
+  step-in-line false true true o f g =
+      let l : at < length s = ltb-true _ _ g in
+      rw (step-in s local versions grease o at l) (on-inside l _ refl)
 
-      apart : (start' : ℕ) → stopped start' ≡ packet start len → ⊥
-      apart start' e = let z : _≡_ {A = ℕ} 0 1 = cc in omega arith
-
-      apart-end : ended ≡ packet start len → ⊥
-      apart-end e = let z : _≡_ {A = ℕ} 0 1 = cc in omega arith
-
-      go : (a b c : Bool) → outside s local versions ≡ a → ltb 0 (length s) ≡ b → ltb at (length s) ≡ c
-          → stepAt s at local versions grease .met ≡ packet start len → Meets s at start len
-      go true b c o f g = never (ap (λ (x : Step). x .met) (step-out s local versions grease at o)) (apart at)
-      go false false c o f g =
-          let l : length s ≤ 0 = ltb-false _ _ f in
-          never (ap (λ (x : Step). x .met) (step-empty s local versions grease o at (omega arith))) (apart at)
-      go false true false o f g =
-          never (ap (λ (x : Step). x .met) (step-end s local versions grease o at (ltb-true _ _ f) (ltb-false _ _ g))) apart-end
-      go false true true o f g =
-          let l : at < length s = ltb-true _ _ g in
-          λ m. on-meets l _ refl (sym (ap (λ (x : Step). x .met) (step-in s local versions grease o at l)) ∙ m)
+pub step-inside : StepsInside
+step-inside s local versions grease at start len = step-in-line s local versions grease at start len _ _ _ refl refl refl

@@ -16,7 +16,6 @@ use Rattle.packet.specs.declared.header.LongHeaderType.the-variants as k
 use Rattle.packet.specs.declared.header.ProtectedHeader.{ProtectedHeader}
 use Rattle.packet.specs.declared.header.ProtectedHeader.the-variants as head
 use Rattle.packet.specs.declared.header.Decoded.{Decoded}
-use Rattle.packet.specs.declared.header.SpaceId.{SpaceId}
 use Rattle.packet.specs.declared.header.SpaceId.the-variants as id
 use Rattle.packet.specs.declared.header.Space.{Space}
 use Rattle.packet.specs.declared.header.Space.the-variants as space

@@ -6,7 +6,6 @@ use mathlib.Core.Option.{Option·elim}
 use lib.ListN.{length, drop}
 use lib.Dec.{leb, eqb}
 use Rattle.coding.specs.Words.{if_then_else_, Answer, no, ok}
-use Rattle.coding.specs.declared.Place.{Place}
 use Rattle.packet.specs.Header.{Header, Outcome, refuse, outside}
 use Rattle.packet.specs.Split.{Split, splitAt}
 

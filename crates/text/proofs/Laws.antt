@@ -1,4 +1,4 @@
--- Laws of numbers in decimal and of bytes in hex. Assumes nothing.
+-- Laws of numbers in decimal and of bytes in hex.
 use mathlib.Core.Path.{_≡_, refl, ap, _∙_}
 use mathlib.Core.List.{List, [], _∷_, _++_}
 use mathlib.Core.Bool.{Bool, true, false}

@@ -1,4 +1,4 @@
--- What a turn of each loop comes to, and what a writer's answer is as a record. Assumes nothing.
+-- What a turn of each loop comes to, and what a writer's answer is as a record.
 use Prim.Native.Nat.{ℕ, zero, suc, _+_, _-_, _≤_, _<_, _^_}
 use mathlib.Core.Path.{_≡_, refl, _∙_, ap}
 use mathlib.Core.List.{List, _∷_, map}

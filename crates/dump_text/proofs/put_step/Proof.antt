@@ -8,7 +8,7 @@ use denote.Ref.{now}
 use Rattle.packet.specs.Walk.{Step, packet}
 use Rattle.packet.specs.Said.{metOf, stepOf}
 use Rattle.packet.specs.declared.walk.Stepped.{Stepped}
-use Rattle.packet.proofs.Walks.{step-meets}
+use Rattle.packet.proofs.Walks.{step-inside}
 use Rattle.dump_text.specs.Turns.{stepHere, lineAt, nextIn, placeIn}
 use Rattle.dump_text.proofs.Texts.{found-end, found-packet, found-refused, found-met}
 use borrow.Author.Needs.{needs}
@@ -50,7 +50,7 @@ add-next c =
     let y = stepHere (now (a .s)) (a .at) in
     let n : ℕ = length (now (a .s)) in
     let p = c .before .before .found .given .0 .0 in
-    let m = step-meets (now (a .s)) 0 (1 ∷ []) false (a .at) (p .start) (p .len) (found-met (x .result) y (x .ensures) p (c .before .before .found .given .1)) in
+    let m = step-inside (now (a .s)) 0 (1 ∷ []) false (a .at) (p .start) (p .len) (found-met (x .result) y (x .ensures) p (c .before .before .found .given .1)) in
     omega arith
 
 put-packet-requires : tie.Need-put-packet-requires

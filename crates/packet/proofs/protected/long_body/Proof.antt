@@ -8,11 +8,6 @@ use Rattle.packet.proofs.Cases.{made-tests}
 use borrow.Author.Needs.{needs}
 use Rattle.packet.proofs.protected.long_body.Statement.{statement}
 use Rattle.packet.proofs.protected.long_body.Tie as tie
-use Rattle.packet.proofs.protected.long_body.Reads as reads
-use Rattle.packet.proofs.protected.long_body.Lts as lts
-use Rattle.packet.proofs.header.LongHeaderType.from_byte.Reads as from-byte-reads
-use Rattle.packet.proofs.protected.is_listed.Reads as is-listed-reads
-use Rattle.packet.proofs.protected.long_tail.Reads as long-tail-reads
 
 returns : tie.Need-returns
 unfolding bodyAt headed outcomeOf headerOf

@@ -3,9 +3,6 @@ use Rattle.packet.specs.Said.{headerOf, outcomeOf}
 use borrow.Author.Needs.{needs}
 use Rattle.packet.proofs.protected.refused.Statement.{statement}
 use Rattle.packet.proofs.protected.refused.Tie as tie
-use Rattle.packet.proofs.protected.refused.Reads as reads
-use Rattle.packet.proofs.protected.refused.Lts as lts
-use Rattle.shared.proofs.cid.ConnectionId.empty.Reads as empty-reads
 
 empty-requires : tie.Need-empty-requires
 empty-requires c κs = search needs

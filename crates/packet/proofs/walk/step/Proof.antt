@@ -12,13 +12,6 @@ use Rattle.packet.specs.Walk.{stepOn, stepAt}
 use borrow.Author.Needs.{needs}
 use Rattle.packet.proofs.walk.step.Statement.{statement}
 use Rattle.packet.proofs.walk.step.Tie as tie
-use Rattle.packet.proofs.walk.step.Reads as reads
-use Rattle.packet.proofs.walk.step.Lts as lts
-use Rattle.packet.proofs.partial.split.Reads as split-reads
-use Rattle.packet.proofs.protected.is_outside.Reads as is-outside-reads
-use Rattle.packet.proofs.protected.refused.Reads as refused-reads
-use Rattle.packet.proofs.walk.step_on.Reads as step-on-reads
-use Rattle.packet.proofs.walk.stop_at.Reads as stop-at-reads
 
 is-outside-requires : tie.Need-is-outside-requires
 is-outside-requires c κs = search needs

@@ -3,9 +3,6 @@ use Rattle.packet.specs.Walk.{stepOn}
 use borrow.Author.Needs.{needs}
 use Rattle.packet.proofs.walk.step_on.Statement.{statement}
 use Rattle.packet.proofs.walk.step_on.Tie as tie
-use Rattle.packet.proofs.walk.step_on.Reads as reads
-use Rattle.packet.proofs.walk.step_on.Lts as lts
-use Rattle.packet.proofs.walk.found_at.Reads as found-at-reads
 
 found-at-requires : tie.Need-found-at-requires
 found-at-requires c κs = search needs
