@@ -1,16 +1,16 @@
 -- What each step adds to the text.
-use mathlib.Core.Path.{_≡_, refl, sym, ap, _∙_}
+use mathlib.Core.Path.{_≡_, refl, ap, _∙_}
 use mathlib.Core.List.{List, [], _∷_, _++_, append-nil}
 use mathlib.Core.Bool.{false}
-use mathlib.Core.Option.{Option, none, some}
+use mathlib.Core.Option.{none, some}
 use Prim.Native.Nat.{ℕ, suc, _+_}
 use native.Mathlib.Omega.{arith}
 use lib.ListN.{length}
-use Rattle.packet.specs.Walk.{Met, ended, packet, stopped, Step, stepAt}
+use Rattle.packet.specs.Walk.{Met, ended, packet, stopped, Step}
 use Rattle.packet.specs.Said.{headerOf, outcomeOf, metOf, stepOf}
 use Rattle.packet.specs.declared.walk.Found.the-variants as found
 use Rattle.packet.specs.declared.walk.Stepped.{Stepped}
-use Rattle.packet.proofs.Walks.{goOn, repeated, ends, stops, goes}
+use Rattle.packet.proofs.Walks.{repeated, ends, stops, goes}
 use Rattle.coding.specs.declared.Place.{Place}
 use Rattle.dump_text.specs.Dump.{packetLine, refusedLine, refusalIn, endLine, lineOf, afterOf, linesOf, nextOf}
 use Rattle.dump_text.specs.Turns.{stepHere, lineAt}

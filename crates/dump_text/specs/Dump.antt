@@ -1,11 +1,10 @@
 -- The dump's text: document 01, "The dump program". Characters are in ASCII.
-use Prim.Native.Nat.{ℕ, _+_, _*_}
+use Prim.Native.Nat.{ℕ, _+_}
 use mathlib.Core.List.{List, [], _∷_, _++_}
 use mathlib.Core.Bool.{false}
 use mathlib.Core.Option.{Option, none, some}
 use lib.ListN.{length}
-use lib.Dec.{leb}
-use Rattle.coding.specs.Words.{if_then_else_, Answer, no, ok}
+use Rattle.coding.specs.Words.{Answer, no, ok}
 use Rattle.text.specs.Decimal.{decimal}
 use Rattle.packet.specs.Header.{Header, initial, zeroRtt, handshake, retry, short, negotiate, Outcome}
 use Rattle.packet.specs.Walk.{Met, ended, packet, stopped, Step, walkAt}
@@ -59,14 +58,6 @@ linesOf total (x ∷ xs) = lineOf total (x .met) (x .header) ++ afterOf (x .met)
 -- local CID length 0, version 1, grease off
 unfoldable pub dumpText : List ℕ → List ℕ
 dumpText s = linesOf (length s) (walkAt s 0 (1 ∷ []) false)
-
--- room for the text of every datagram of this length
-unfoldable pub dumpRoom : List ℕ → ℕ
-dumpRoom s = 4 * length s + 64
-
--- what is written into a buffer: 15 where it has less room
-unfoldable pub dumpOut : List ℕ → ℕ → Answer (List ℕ)
-dumpOut s room = if leb (dumpRoom s) room then ok (dumpText s) else no 15
 
 -- where the next step is
 unfoldable pub nextOf : Met → Option ℕ

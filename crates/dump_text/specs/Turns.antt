@@ -26,6 +26,11 @@ unfoldable pub placeIn : Turn → ℕ
 placeIn (turn.More next p) = p
 placeIn (turn.Done p) = p
 
+-- how long the line is, and the next step is known
+pub record Counted (s : List ℕ) (at : ℕ) (r : Turn) : Type 0 where
+  pub next : nextIn r ≡ nextOf (stepHere s at .met)
+  pub len : placeIn r ≡ length (lineAt s at)
+
 -- the line is put, and the next step is known
 pub record Turned (s : List ℕ) (at : ℕ) (old : List ℕ) (p : ℕ) (r : Turn) (new : List ℕ) : Type 0 where
   pub next : nextIn r ≡ nextOf (stepHere s at .met)

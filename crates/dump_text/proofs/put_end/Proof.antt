@@ -1,13 +1,8 @@
-use Rattle.dump_text.specs.Dump.{word}
-use Rattle.dump_text.specs.Dump.{endLine}
+use Rattle.dump_text.specs.Dump.{word, endLine}
 use Rattle.dump_text.proofs.Puts.{room-after, two}
 use borrow.Author.Needs.{needs}
 use Rattle.dump_text.proofs.put_end.Statement.{statement}
 use Rattle.dump_text.proofs.put_end.Tie as tie
-use Rattle.dump_text.proofs.put_end.Reads as reads
-use Rattle.dump_text.proofs.put_end.Lts as lts
-use Rattle.coding.proofs.put_slice.Reads as put-slice-reads
-use Rattle.dump_text.proofs.put_word.Reads as put-word-reads
 
 slice-aggregate-put-slice : tie.Need-slice-aggregate-put-slice
 slice-aggregate-put-slice c = search needs

@@ -1,19 +1,13 @@
-use mathlib.Core.List.{List, [], _∷_, _++_}
+use mathlib.Core.List.{List, _++_}
 use Prim.Native.Nat.{ℕ}
 use lib.ListN.{length}
 use denote.Ref.{now}
-use Rattle.dump_text.specs.Dump.{word, kindWord}
-use Rattle.packet.specs.Said.{headerOf}
-use Rattle.dump_text.specs.Dump.{packetLine}
-use Rattle.packet.specs.Said.{outcomeOf}
+use Rattle.dump_text.specs.Dump.{word, kindWord, packetLine}
+use Rattle.packet.specs.Said.{headerOf, outcomeOf}
 use Rattle.dump_text.proofs.Puts.{shorter, room-after, two}
 use borrow.Author.Needs.{needs}
 use Rattle.dump_text.proofs.put_packet.Statement.{statement}
 use Rattle.dump_text.proofs.put_packet.Tie as tie
-use Rattle.dump_text.proofs.put_packet.Reads as reads
-use Rattle.dump_text.proofs.put_packet.Lts as lts
-use Rattle.dump_text.proofs.put_kind.Reads as put-kind-reads
-use Rattle.dump_text.proofs.put_word.Reads as put-word-reads
 
 put-word-requires : tie.Need-put-word-requires
 unfolding packetLine outcomeOf

@@ -2,16 +2,11 @@ use mathlib.Core.List.{List, [], _∷_, _++_}
 use Prim.Native.Nat.{ℕ}
 use lib.ListN.{length}
 use denote.Ref.{now}
-use Rattle.dump_text.specs.Dump.{word}
-use Rattle.dump_text.specs.Dump.{refusedLine}
+use Rattle.dump_text.specs.Dump.{word, refusedLine}
 use Rattle.dump_text.proofs.Puts.{shorter, room-after, two}
 use borrow.Author.Needs.{needs}
 use Rattle.dump_text.proofs.put_refused.Statement.{statement}
 use Rattle.dump_text.proofs.put_refused.Tie as tie
-use Rattle.dump_text.proofs.put_refused.Reads as reads
-use Rattle.dump_text.proofs.put_refused.Lts as lts
-use Rattle.coding.proofs.put_slice.Reads as put-slice-reads
-use Rattle.dump_text.proofs.put_word.Reads as put-word-reads
 
 slice-aggregate-put-slice : tie.Need-slice-aggregate-put-slice
 slice-aggregate-put-slice c = search needs

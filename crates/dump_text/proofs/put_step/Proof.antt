@@ -1,26 +1,15 @@
 use native.Mathlib.Omega.{arith}
-use mathlib.Core.Path.{_≡_, sym, ap, _∙_}
 use mathlib.Core.List.{[], _∷_}
 use mathlib.Core.Bool.{false}
 use Prim.Native.Nat.{ℕ}
 use lib.ListN.{length}
 use denote.Ref.{now}
-use Rattle.packet.specs.Walk.{Step, packet}
-use Rattle.packet.specs.Said.{metOf, stepOf}
-use Rattle.packet.specs.declared.walk.Stepped.{Stepped}
 use Rattle.packet.proofs.Walks.{step-inside}
 use Rattle.dump_text.specs.Turns.{stepHere, lineAt, nextIn, placeIn}
 use Rattle.dump_text.proofs.Texts.{found-end, found-packet, found-refused, found-met}
 use borrow.Author.Needs.{needs}
 use Rattle.dump_text.proofs.put_step.Statement.{statement}
 use Rattle.dump_text.proofs.put_step.Tie as tie
-use Rattle.dump_text.proofs.put_step.Reads as reads
-use Rattle.dump_text.proofs.put_step.Lts as lts
-use Rattle.dump_text.proofs.put_end.Reads as put-end-reads
-use Rattle.dump_text.proofs.put_packet.Reads as put-packet-reads
-use Rattle.dump_text.proofs.put_refused.Reads as put-refused-reads
-use Rattle.dump_text.proofs.refusal_in.Reads as refusal-in-reads
-use Rattle.packet.proofs.step.Reads as step-reads
 
 slice-aggregate-step : tie.Need-slice-aggregate-step
 slice-aggregate-step c = search needs

@@ -5,10 +5,6 @@ use Rattle.dump_text.proofs.Puts.{two}
 use borrow.Author.Needs.{needs}
 use Rattle.dump_text.proofs.put_word.Statement.{statement}
 use Rattle.dump_text.proofs.put_word.Tie as tie
-use Rattle.dump_text.proofs.put_word.Reads as reads
-use Rattle.dump_text.proofs.put_word.Lts as lts
-use Rattle.coding.proofs.put_u8.Reads as put-u8-reads
-use Rattle.text.proofs.put_decimal.Reads as put-decimal-reads
 
 put-decimal-requires : tie.Need-put-decimal-requires
 put-decimal-requires c κs = search needs
