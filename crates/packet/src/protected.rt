@@ -198,7 +198,7 @@ fn long_header(s: &[u8], first: u8, versions: &[u32]) -> Decoded
         return refused(Refusal::PacketEnd);
     };
     let PlaceRead::At(to, second) = shared::long_place(s, next) else {
-        return refused(Refusal::Cid);
+        return refused(Refusal::Cid); // for a cut length byte too
     };
     let PlaceRead::At(from, at) = shared::long_place(s, second) else {
         return refused(Refusal::Cid);
