@@ -22,3 +22,7 @@ andThen (got a n) stop next = next a n
 pub data Answer (A : Type 0) : Type 0 where
   no : ℕ → Answer A
   ok : A → Answer A
+
+-- the most bytes of a datagram, packet, payload, header or frame: what UDP's length field leaves
+abbrev pub maxDatagram : ℕ
+maxDatagram = 65527

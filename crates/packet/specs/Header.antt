@@ -5,11 +5,12 @@ use mathlib.Core.Bool.{Bool, false, not, _&&_, _||_}
 use mathlib.Core.Option.{Option, none, some}
 use lib.ListN.{length}
 use lib.Dec.{ltb, eqb}
-use Rattle.coding.specs.Words.{if_then_else_, andThen, Answer, no, ok}
+use Rattle.coding.specs.Words.{if_then_else_, andThen, Answer, no, ok, maxDatagram}
 use Rattle.coding.specs.Reading.{fixedAt, takeAt}
 use Rattle.coding.specs.Varint.{varAt}
 use Rattle.coding.specs.declared.Place.{Place}
-use Rattle.shared.specs.Cid.{cidOf, cidOn, longCidAt}
+use Rattle.shared.specs.FirstByte.{longHeaderForm, fixedBit, spinBit}
+use Rattle.shared.specs.Cid.{maxCid, cidOf, cidOn, longCidAt}
 use Rattle.shared.specs.declared.cid.ConnectionId.{ConnectionId}
 use Rattle.packet.specs.TypeBits.{PacketType, typeOf}
 use Rattle.packet.specs.TypeBits as type
@@ -36,13 +37,17 @@ pub record Outcome : Type 0 where
 unfoldable pub refuse : ℕ → Outcome
 refuse k = record { said = no k; dst = cidOf []; src = cidOf []; version = 0; end = 0 }
 
+-- the most versions that a reader may list
+abbrev pub maxVersions : ℕ
+maxVersions = 16
+
 -- an argument is outside its rule
 unfoldable pub outside : List ℕ → ℕ → List ℕ → Bool
-outside s local versions = ltb 65527 (length s) || ltb 20 local || ltb 16 (length versions)
+outside s local versions = ltb maxDatagram (length s) || ltb maxCid local || ltb maxVersions (length versions)
 
 -- the fixed bit is clear, and grease is off
 unfoldable pub unfixed : ℕ → Bool → Bool
-unfixed first grease = not grease && eqb (first / 64 % 2) 0
+unfixed first grease = not grease && eqb (first / fixedBit % 2) 0
 
 unfoldable pub listed : List ℕ → ℕ → Bool
 listed [] v = false
@@ -96,11 +101,11 @@ shortAt steer s local =
 -- ---- any header
 
 -- byte 0 is taken apart: the bits that steer are the form bit, the fixed bit and, in a long header, the type (first / 16),
--- in a short one the spin bit (first / 32); the rest of it goes to Version Negotiation alone
+-- in a short one the spin bit (first / spinBit); the rest of it goes to Version Negotiation alone
 unfoldable pub firstAt : (ℕ → PacketType) → ℕ → List ℕ → ℕ → List ℕ → Bool → Outcome
 firstAt types first s local versions grease =
     if unfixed first grease then refuse 2 else
-    if ltb first 128 then shortAt (first / 32) s local else longAt types (first / 16) (first % 16) s versions
+    if ltb first longHeaderForm then shortAt (first / spinBit) s local else longAt types (first / 16) (first % 16) s versions
 
 -- the arguments come first, then byte 0
 unfoldable pub headerBy : (ℕ → PacketType) → List ℕ → ℕ → List ℕ → Bool → Outcome

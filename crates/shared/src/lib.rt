@@ -1,8 +1,16 @@
-// Connection ids, ECN codepoints, and the kinds of number that a connection counts with (shared.rs; lib.rs).
+// Connection ids, ECN codepoints, the kinds of number that a connection counts with (shared.rs; lib.rs), and the bits of a
+// header's first byte (packet.rs).
+mod bits; // bits.rt: the bits of a header's first byte
 mod cid; // cid.rt: connection ids
 mod codepoint; // codepoint.rt: explicit congestion notification
 mod kinds; // kinds.rt: stream ids, frame types, packet numbers
 
+pub use bits::FIXED_BIT;
+pub use bits::KEY_PHASE_BIT;
+pub use bits::LONG_HEADER_FORM;
+pub use bits::LONG_RESERVED_BITS;
+pub use bits::SHORT_RESERVED_BITS;
+pub use bits::SPIN_BIT;
 pub use cid::CidAnswer;
 pub use cid::CidRead;
 pub use cid::ConnectionId;
