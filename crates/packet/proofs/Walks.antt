@@ -14,7 +14,7 @@ use Rattle.coding.proofs.Laws.{fixed-none}
 use Rattle.packet.specs.Header.{Header, initial, zeroRtt, handshake, retry, short, negotiate, refuse, outside, headerBy, headerAt}
 use Rattle.packet.specs.Split.{Split, noPacket, splitOn, splitAt}
 use Rattle.packet.specs.Walk.{Met, ended, packet, stopped, Step, metOn, stepOn, stopAt, walkFrom, walkAt, stepAt}
-use Rattle.packet.specs.Inside.{PacketInside, InLine, whole, refused, follows, StepsInside, WalksInside}
+use Rattle.packet.specs.Inside.{PacketInside, InLine, whole, tailRefused, follows, StepsInside, WalksInside}
 use Rattle.packet.proofs.Within.{least}
 use Rattle.packet.proofs.Splits.{split-taken, split-refused, rest-some, rest-none}
 
@@ -77,7 +77,7 @@ module _ (local : ℕ) (versions : List ℕ) (grease : Bool) where
   Lined turns start s = InLine (start + length s) start (walkFrom turns start s local versions grease)
 
   lined-no : (turns start : ℕ) (s : List ℕ) (k : ℕ) → first local versions grease s .header .said ≡ no k → Lined turns start s
-  lined-no turns start s k e = rw (walk-no local versions grease turns start s k e) (refused (met-no start (first local versions grease s) k e) (omega arith))
+  lined-no turns start s k e = rw (walk-no local versions grease turns start s k e) (tailRefused (met-no start (first local versions grease s) k e) (omega arith))
 
   module _ (s : List ℕ) (h : Header) (e : first local versions grease s .header .said ≡ ok h) where
     lined-last : (turns start : ℕ) → length s ≤ size local versions grease s → Lined turns start s
@@ -139,7 +139,7 @@ covered total (x ∷ xs) = bytesOf total (x .met) + covered total xs
 line-covers : (n at : ℕ) (xs : List Step) → InLine n at xs → at + covered n xs ≡ n
 unfolding covered
 line-covers n at xs (whole e) = omega arith
-line-covers n at xs (refused e l) = rw e (omega arith)
+line-covers n at xs (tailRefused e l) = rw e (omega arith)
 line-covers n at xs (follows {start = start} {len = len} {xs = ys} e k l) = rw e (omega (arith, k .starts, line-covers n (start + len) ys l))
 
 pub walk-covers : (local : ℕ) (versions : List ℕ) (grease : Bool) (s : List ℕ) → covered (length s) (walkAt s local versions grease) ≡ length s

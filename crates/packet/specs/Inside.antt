@@ -33,7 +33,7 @@ pub record PacketInside (n at start len : ℕ) (o : Outcome) : Type 0 where
 -- steps from a place on: each packet stands where the one before it ended, and the last ends with the datagram or before a refusal
 pub data InLine (n : ℕ) : ℕ → List Step → Type 0 where
   whole : {at : ℕ} → at ≡ n → InLine n at []
-  refused : {at : ℕ} {x : Step} → x .met ≡ stopped at → at ≤ n → InLine n at (x ∷ [])
+  tailRefused : {at : ℕ} {x : Step} → x .met ≡ stopped at → at ≤ n → InLine n at (x ∷ [])
   follows : {at start len : ℕ} {x : Step} {xs : List Step} → x .met ≡ packet start len → PacketInside n at start len (x .header) →
       InLine n (start + len) xs → InLine n at (x ∷ xs)
 

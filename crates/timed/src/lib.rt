@@ -25,7 +25,7 @@ ghost use Rattle.frame_out.specs.Frames.{metaOut, cryptoOut, resetStreamOut, ne
 ghost use Rattle.frame_out.specs.Closes.{connection, closeOut};
 ghost use Rattle.ack_out.specs.Acks.{ackOut};
 ghost use Rattle.dump_text.specs.Dump.{dumpText};
-ghost use Rattle.timed.specs.Timed.{gathered, varsOf, cutsOf, fullsOf, written, flagged, Writes};
+ghost use Rattle.timed.specs.Timed.{gathered, varsOf, cutsOf, fullsOf, writeRecord, flagged, Writes};
 
 // What came before the end or a refusal: how many, and the exclusive or of all.
 #[repr(C)]
@@ -129,7 +129,7 @@ pub extern "C" fn guobbarel_timed_expand(
 
 // A writer's answer as a record.
 fn written(w: Wrote) -> WriteAnswer
-    ensures { λ r. ⌜ r ≡ written (wroteOf w) ⌝ }
+    ensures { λ r. ⌜ r ≡ writeRecord (wroteOf w) ⌝ }
 {
     match w {
         Wrote::Len(len) => WriteAnswer { refusal: 0, len },
