@@ -9,22 +9,22 @@ use lib.ListN.{length, drop, length-append, length-drop}
 use lib.Dec.{ltb}
 use borrow.Author.Tests.{ltb-true, ltb-false}
 use Rattle.coding.specs.Words.{Answer, no, ok}
-use Rattle.packet.specs.Header.{Header, initial, zeroRtt, handshake, retry, short, negotiate, Outcome, refuse, outside, lengthIn}
+use Rattle.packet.specs.Header.{Header, initial, zeroRtt, handshake, retry, short, negotiate, Outcome, refusedHeader, outside, lengthIn}
 use Rattle.packet.specs.Split.{Split}
-use Rattle.packet.specs.Walk.{packet, Step, stepOn, stopAt, walkFrom, walkAt}
+use Rattle.packet.specs.Walk.{packet, PacketStep, stepOn, stopAt, packetsFrom, walkAt}
 use Rattle.packet.proofs.Within.{least}
 use Rattle.packet.proofs.Splits.{split-taken, split-refused}
 use Rattle.packet.proofs.Walks.{first, size, met-no, met-ok, walk-no, walk-last, walk-more, walk-refused, header-outside, least-pos, step-out, step-empty, step-end, step-in}
 use Rattle.text.proofs.Laws.{length-below}
 use Rattle.dump_text.specs.Turns.{lineAt}
-use Rattle.dump_text.specs.Dump.{word, kindWord, refusalIn, packetLine, refusedLine, endLine, lineOf, afterOf, linesOf, dumpText}
+use Rattle.dump_text.specs.Dump.{numberThen, kindWord, refusalIn, packetLine, refusedLine, totalLine, lineOf, afterOf, linesOf, dumpText}
 
 -- ---- a line
 
 -- a number below 10^d has at most d digits
 module _ (d : ℕ) (some : 1 ≤ d) where
-  word-le : (x c : ℕ) → x < 10 ^ d → length (word x c) ≤ d + 1
-  unfolding word
+  word-le : (x c : ℕ) → x < 10 ^ d → length (numberThen x c) ≤ d + 1
+  unfolding numberThen
   word-le x c h = simp length-append (omega (arith, length-below d x some h))
 
 kind-le : (a : Answer Header) → length (kindWord a) ≤ 10
@@ -47,8 +47,8 @@ module _ (d : ℕ) (some : 1 ≤ d) where
   unfolding refusedLine
   refused-le start k a b = simp length-append (omega (arith, word-le d some start 0x20 a, word-le d some k 0x0a b))
 
-  end-le : (total : ℕ) → total < 10 ^ d → length (endLine total) ≤ d + 5
-  unfolding endLine
+  end-le : (total : ℕ) → total < 10 ^ d → length (totalLine total) ≤ d + 5
+  unfolding totalLine
   end-le total a = simp length-append (omega (arith, word-le d some total 0x0a a))
 
 -- a packet with a rest has 8 bytes or more
@@ -68,7 +68,7 @@ one s = first 0 (1 ∷ []) false s
 
 module _ (total : ℕ) (small : total < 65528) where
   abbrev Fits : ℕ → ℕ → List ℕ → Type 0
-  Fits turns start s = length (linesOf total (walkFrom turns start s 0 (1 ∷ []) false)) ≤ 4 * length s + 45
+  Fits turns start s = length (linesOf total (packetsFrom turns start s 0 (1 ∷ []) false)) ≤ 4 * length s + 45
 
   fits-no : (turns start : ℕ) (s : List ℕ) (k : ℕ) → start ≤ total → one s .header .said ≡ no k → Fits turns start s
   unfolding linesOf lineOf afterOf refusalIn stepOn
@@ -127,7 +127,7 @@ module _ (total : ℕ) (small : total < 65528) where
 
 -- past 65,527 bytes it is one line
 long-text : (s : List ℕ) → outside s 0 (1 ∷ []) ≡ true → length (dumpText s) ≤ 64
-unfolding dumpText walkAt linesOf lineOf afterOf refusalIn stopAt refuse
+unfolding dumpText walkAt linesOf lineOf afterOf refusalIn stopAt refusedHeader
 long-text s o =
     rw (walk-refused s 0 (1 ∷ []) false 14 (header-outside s 0 (1 ∷ []) false o))
     (simp length-append (omega (arith, refused-le 5 (omega arith) 0 14 (omega arith) (omega arith))))
@@ -155,11 +155,11 @@ text-fits s = go (outside s 0 (1 ∷ [])) refl
 -- ---- the line of a step at any place, of 80 bytes at most
 
 module _ (s : List ℕ) (at : ℕ) (l : length s < 2 ^ 64) (k : at < 2 ^ 64) where
-  abbrev Short : Step → Type 0
+  abbrev Short : PacketStep → Type 0
   Short x = length (lineOf (length s) (x .met) (x .header)) ≤ 80
 
   stop-le : (n : ℕ) → n ≤ 14 → Short (stopAt at n)
-  unfolding stopAt refuse lineOf refusalIn
+  unfolding stopAt refusedHeader lineOf refusalIn
   stop-le n h = omega (arith, refused-le 20 (omega arith) at n (omega arith) (omega arith))
 
   on-le : (x : Split) → x ≡ one (drop at s) → (a : Answer Header) → x .header .said ≡ a → Short (stepOn at x)

@@ -11,7 +11,7 @@ use Rattle.coding.proofs.Laws.{length-splice}
 use Rattle.coding.proofs.Writes.{So, so-none, so-put}
 use Rattle.packet.proofs.Walks.{repeated, walk-steps, step-inside}
 use Rattle.dump_text.specs.Dump.{linesOf, dumpText, nextOf}
-use Rattle.dump_text.specs.Turns.{stepHere, lineAt, nextIn, placeIn}
+use Rattle.dump_text.specs.Turns.{stepHere, lineAt, nextIn, textPlace}
 use Rattle.dump_text.specs.declared.Turn.{Turn}
 use Rattle.dump_text.specs.declared.Turn.the-variants as turn
 use Rattle.dump_text.proofs.Texts.{next-some, more-text, last-text}
@@ -26,16 +26,16 @@ module _ (t : Turn) where
   unfolding nextIn
   told-next next p o e f = rw e at f
 
-  pub told-place : (next p : ℕ) → t ≡ turn.More next p → placeIn t ≡ p
-  unfolding placeIn
+  pub told-place : (next p : ℕ) → t ≡ turn.More next p → textPlace t ≡ p
+  unfolding textPlace
   told-place next p e = rw e
 
   pub told-end : (p : ℕ) (o : Option ℕ) → t ≡ turn.Done p → nextIn t ≡ o → none ≡ o
   unfolding nextIn
   told-end p o e f = rw e at f
 
-  pub told-last : (p : ℕ) → t ≡ turn.Done p → placeIn t ≡ p
-  unfolding placeIn
+  pub told-last : (p : ℕ) → t ≡ turn.Done p → textPlace t ≡ p
+  unfolding textPlace
   told-last p e = rw e
 
 -- ---- the text so far, and what the steps from a place on add to it

@@ -14,9 +14,9 @@ ghost use lib.Dec.{ltb};
 ghost use Rattle.coding.specs.Words.{ok};
 ghost use Rattle.coding.specs.Said.{wroteOf};
 ghost use Rattle.coding.specs.Writing.{Put, Written};
-ghost use Rattle.packet.specs.Walk.{stepAt};
+ghost use Rattle.packet.specs.Walk.{packetStepAt};
 ghost use Rattle.packet.specs.Said.{headerOf, outcomeOf};
-ghost use Rattle.dump_text.specs.Dump.{word, kindWord, refusalIn, packetLine, refusedLine, endLine, dumpText};
+ghost use Rattle.dump_text.specs.Dump.{numberThen, kindWord, refusalIn, packetLine, refusedLine, totalLine, dumpText};
 ghost use Rattle.dump_text.specs.Turns.{lineAt, Counted, Turned};
 
 // No line is longer than this, whatever the numbers in it.
@@ -30,8 +30,8 @@ enum Turn {
 
 // A number and the character after it.
 fn put_word(buf: &mut [u8], at: usize, x: u64, after: u8) -> usize
-    requires { ⌜ at + length (word x after) ≤ length (now buf) ⌝ }
-    ensures { λ r. ⌜ Put (word x after) (now (buf .entry)) at r (now (buf .exit)) ⌝ }
+    requires { ⌜ at + length (numberThen x after) ≤ length (now buf) ⌝ }
+    ensures { λ r. ⌜ Put (numberThen x after) (now (buf .entry)) at r (now (buf .exit)) ⌝ }
 {
     let next = text::put_decimal(buf, at, x);
     coding::put_u8(buf, next, after)
@@ -89,8 +89,8 @@ fn put_refused(buf: &mut [u8], at: usize, start: usize, number: u64) -> usize
 }
 
 fn put_end(buf: &mut [u8], at: usize, total: usize) -> usize
-    requires { ⌜ at + length (endLine total) ≤ length (now buf) ⌝ }
-    ensures { λ r. ⌜ Put (endLine total) (now (buf .entry)) at r (now (buf .exit)) ⌝ }
+    requires { ⌜ at + length (totalLine total) ≤ length (now buf) ⌝ }
+    ensures { λ r. ⌜ Put (totalLine total) (now (buf .entry)) at r (now (buf .exit)) ⌝ }
 {
     let a = coding::put_slice(buf, at, b"end ");
     put_word(buf, a, total as u64, b'\n')

@@ -16,7 +16,7 @@ use Rattle.coding.specs.declared.Place.{Place}
 use Rattle.coding.proofs.Laws.{take-inside}
 use Rattle.coding.proofs.Rules.{then-all}
 use Rattle.packet.specs.TypeBits.{typeOf}
-use Rattle.packet.specs.Header.{Header, Outcome, refuse, headerAt, lengthIn}
+use Rattle.packet.specs.Header.{Header, Outcome, refusedHeader, headerAt, lengthIn}
 use Rattle.packet.specs.Split.{Split, nowhere, restAt, cutAt, noPacket, splitBy, splitOn, splitAt, tokenIn, restIn}
 use Rattle.packet.specs.Inside.{HeaderInside, SplitInside, SplitsInside}
 use Rattle.packet.proofs.Within.{least, Within, header-within}
@@ -60,11 +60,11 @@ module _ (s : List ℕ) (o : Outcome) where
     inside n l = record { end = l; token = rw e (w .0 x e .token) }
 
     by-right : (m : Option ℕ) → lengthIn (ok x) ≡ m → Right (splitBy m s o)
-    unfolding splitBy refuse
+    unfolding splitBy refusedHeader
     by-right none f = let i = w .0 x e in cut-right x (length s) e (omega arith) (inside (length s) (i .inside)) (omega arith) (λ g. refl)
     by-right (some n) f =
         let i = w .0 x e in
-        then-all Right (takeAt n s (o .end)) _ _ (λ g. no-right 7 (refuse 7) (omega arith) refl refl) (λ payload end g.
+        then-all Right (takeAt n s (o .end)) _ _ (λ g. no-right 7 (refusedHeader 7) (omega arith) refl refl) (λ payload end g.
         let j = take-inside n s (o .end) payload end g in
         cut-right x end e (omega arith) (inside end (omega arith)) (omega arith) (λ q. let z : _≡_ {A = ℕ} 0 1 = cc in absurd (omega arith)))
 

@@ -11,9 +11,9 @@ use lib.Dec.{ltb}
 use borrow.Author.Tests.{ltb-true, ltb-false, lt-leb, le-leb, eq-eqb, ne-eqb}
 use Rattle.coding.specs.Words.{if_then_else_, andThen, Answer, no, ok}
 use Rattle.coding.proofs.Laws.{fixed-none}
-use Rattle.packet.specs.Header.{Header, initial, zeroRtt, handshake, retry, short, negotiate, refuse, outside, headerBy, headerAt}
+use Rattle.packet.specs.Header.{Header, initial, zeroRtt, handshake, retry, short, negotiate, refusedHeader, outside, headerBy, headerAt}
 use Rattle.packet.specs.Split.{Split, noPacket, splitOn, splitAt}
-use Rattle.packet.specs.Walk.{Met, ended, packet, stopped, Step, metOn, stepOn, stopAt, walkFrom, walkAt, stepAt}
+use Rattle.packet.specs.Walk.{Met, atEnd, packet, refusedAt, PacketStep, metOn, stepOn, stopAt, packetsFrom, walkAt, packetStepAt}
 use Rattle.packet.specs.Inside.{PacketInside, InLine, whole, tailRefused, follows, StepsInside, WalksInside}
 use Rattle.packet.proofs.Within.{least}
 use Rattle.packet.proofs.Splits.{split-taken, split-refused, rest-some, rest-none}
@@ -29,7 +29,7 @@ least-pos (negotiate bits) = omega arith
 
 -- what a step meets, by what the header says
 module _ (start : ℕ) (x : Split) where
-  pub met-no : (k : ℕ) → x .header .said ≡ no k → stepOn start x .met ≡ stopped start
+  pub met-no : (k : ℕ) → x .header .said ≡ no k → stepOn start x .met ≡ refusedAt start
   unfolding stepOn metOn
   met-no k e = rw e
 
@@ -46,20 +46,20 @@ module _ (local : ℕ) (versions : List ℕ) (grease : Bool) where
 
   -- ---- the three ways of a walk: a refusal, a last packet, and a packet with a rest
 
-  pub walk-no : (turns start : ℕ) (s : List ℕ) (k : ℕ) → first s .header .said ≡ no k → walkFrom turns start s local versions grease ≡ stepOn start (first s) ∷ []
-  unfolding walkFrom Option·elim
+  pub walk-no : (turns start : ℕ) (s : List ℕ) (k : ℕ) → first s .header .said ≡ no k → packetsFrom turns start s local versions grease ≡ stepOn start (first s) ∷ []
+  unfolding packetsFrom Option·elim
   walk-no zero start s k e = refl
   walk-no (suc turns) start s k e = rw (split-refused s local versions grease k e .rest)
 
   module _ (s : List ℕ) (h : Header) (e : first s .header .said ≡ ok h) where
-    pub walk-last : (turns start : ℕ) → length s ≤ size s → walkFrom turns start s local versions grease ≡ stepOn start (first s) ∷ []
-    unfolding walkFrom Option·elim
+    pub walk-last : (turns start : ℕ) → length s ≤ size s → packetsFrom turns start s local versions grease ≡ stepOn start (first s) ∷ []
+    unfolding packetsFrom Option·elim
     walk-last zero start l = refl
     walk-last (suc turns) start l = rw (split-taken s local versions grease h e .rest, rest-none s (size s) l)
 
     pub walk-more : (turns start : ℕ) → size s < length s
-        → walkFrom (suc turns) start s local versions grease ≡ stepOn start (first s) ∷ walkFrom turns (start + size s) (drop (size s) s) local versions grease
-    unfolding walkFrom Option·elim
+        → packetsFrom (suc turns) start s local versions grease ≡ stepOn start (first s) ∷ packetsFrom turns (start + size s) (drop (size s) s) local versions grease
+    unfolding packetsFrom Option·elim
     walk-more turns start l = rw (split-taken s local versions grease h e .rest, rest-some s (size s) l)
 
 -- ---- each packet of a walk stands where the one before it ended
@@ -74,7 +74,7 @@ took local versions grease s h e n start l =
 
 module _ (local : ℕ) (versions : List ℕ) (grease : Bool) where
   abbrev Lined : ℕ → ℕ → List ℕ → Type 0
-  Lined turns start s = InLine (start + length s) start (walkFrom turns start s local versions grease)
+  Lined turns start s = InLine (start + length s) start (packetsFrom turns start s local versions grease)
 
   lined-no : (turns start : ℕ) (s : List ℕ) (k : ℕ) → first local versions grease s .header .said ≡ no k → Lined turns start s
   lined-no turns start s k e = rw (walk-no local versions grease turns start s k e) (tailRefused (met-no start (first local versions grease s) k e) (omega arith))
@@ -128,15 +128,15 @@ walk-inside s local versions grease = let z : 0 + length s ≡ length s = omega 
 
 -- the bytes that a step accounts for in a datagram that ends at `total`
 abbrev pub bytesOf : ℕ → Met → ℕ
-bytesOf total ended = 0
+bytesOf total atEnd = 0
 bytesOf total (packet start len) = len
-bytesOf total (stopped start) = total - start
+bytesOf total (refusedAt start) = total - start
 
-unfoldable pub covered : ℕ → List Step → ℕ
+unfoldable pub covered : ℕ → List PacketStep → ℕ
 covered total [] = 0
 covered total (x ∷ xs) = bytesOf total (x .met) + covered total xs
 
-line-covers : (n at : ℕ) (xs : List Step) → InLine n at xs → at + covered n xs ≡ n
+line-covers : (n at : ℕ) (xs : List PacketStep) → InLine n at xs → at + covered n xs ≡ n
 unfolding covered
 line-covers n at xs (whole e) = omega arith
 line-covers n at xs (tailRefused e l) = rw e (omega arith)
@@ -147,17 +147,17 @@ walk-covers local versions grease s = omega (arith, line-covers (length s) 0 (wa
 
 -- ---- repeating the step
 
-unfoldable pub goOn : Met → Step → (ℕ → List Step) → List Step
-goOn ended x next = []
+unfoldable pub goOn : Met → PacketStep → (ℕ → List PacketStep) → List PacketStep
+goOn atEnd x next = []
 goOn (packet start len) x next = x ∷ next (start + len)
-goOn (stopped start) x next = x ∷ []
+goOn (refusedAt start) x next = x ∷ []
 
-pub ends : (m : Met) (x : Step) (next : ℕ → List Step) → m ≡ ended → goOn m x next ≡ []
+pub ends : (m : Met) (x : PacketStep) (next : ℕ → List PacketStep) → m ≡ atEnd → goOn m x next ≡ []
 unfolding goOn
 ends m x next e = rw e
 
-module _ (m : Met) (x : Step) (next : ℕ → List Step) (start : ℕ) where
-  pub stops : m ≡ stopped start → goOn m x next ≡ x ∷ []
+module _ (m : Met) (x : PacketStep) (next : ℕ → List PacketStep) (start : ℕ) where
+  pub stops : m ≡ refusedAt start → goOn m x next ≡ x ∷ []
   unfolding goOn
   stops e = rw e
 
@@ -166,34 +166,34 @@ module _ (m : Met) (x : Step) (next : ℕ → List Step) (start : ℕ) where
   goes len e = rw e
 
 -- at most n steps, each at the end of the packet before it
-unfoldable pub repeated : ℕ → List ℕ → ℕ → ℕ → List ℕ → Bool → List Step
+unfoldable pub repeated : ℕ → List ℕ → ℕ → ℕ → List ℕ → Bool → List PacketStep
 repeated zero s at local versions grease = []
 repeated (suc n) s at local versions grease =
-    goOn (stepAt s at local versions grease .met) (stepAt s at local versions grease) (λ next. repeated n s next local versions grease)
+    goOn (packetStepAt s at local versions grease .met) (packetStepAt s at local versions grease) (λ next. repeated n s next local versions grease)
 
 module _ (s : List ℕ) (local : ℕ) (versions : List ℕ) (grease : Bool) where
-  pub step-out : (at : ℕ) → outside s local versions ≡ true → stepAt s at local versions grease ≡ stopAt at 14
-  unfolding stepAt if_then_else_
+  pub step-out : (at : ℕ) → outside s local versions ≡ true → packetStepAt s at local versions grease ≡ stopAt at 14
+  unfolding packetStepAt if_then_else_
   step-out at o = rw o
 
   module _ (o : outside s local versions ≡ false) (at : ℕ) where
-    pub step-empty : length s ≡ 0 → stepAt s at local versions grease ≡ stopAt at 1
-    unfolding stepAt if_then_else_
+    pub step-empty : length s ≡ 0 → packetStepAt s at local versions grease ≡ stopAt at 1
+    unfolding packetStepAt if_then_else_
     step-empty e = rw (o, eq-eqb _ _ e)
 
-    pub step-end : 0 < length s → length s ≤ at → stepAt s at local versions grease ≡ record { met = ended; header = refuse 1 }
-    unfolding stepAt if_then_else_
+    pub step-end : 0 < length s → length s ≤ at → packetStepAt s at local versions grease ≡ record { met = atEnd; header = refusedHeader 1 }
+    unfolding packetStepAt if_then_else_
     step-end p l = rw (o, ne-eqb (length s) 0 (λ e. omega arith), le-leb _ _ l)
 
-    pub step-in : at < length s → stepAt s at local versions grease ≡ stepOn at (splitAt (drop at s) local versions grease)
-    unfolding stepAt if_then_else_
+    pub step-in : at < length s → packetStepAt s at local versions grease ≡ stepOn at (splitAt (drop at s) local versions grease)
+    unfolding packetStepAt if_then_else_
     step-in l = rw (o, ne-eqb (length s) 0 (λ e. omega arith), lt-leb _ _ l)
 
   module _ (o : outside s local versions ≡ false) where
     -- one step and what follows it; `again` is the walk from the end of the packet
     once-more : (turns at : ℕ) → at < length s
-        → ((next : ℕ) → at < next → next < length s → repeated (suc turns) s next local versions grease ≡ walkFrom turns next (drop next s) local versions grease)
-        → repeated (suc (suc turns)) s at local versions grease ≡ walkFrom (suc turns) at (drop at s) local versions grease
+        → ((next : ℕ) → at < next → next < length s → repeated (suc turns) s next local versions grease ≡ packetsFrom turns next (drop next s) local versions grease)
+        → repeated (suc (suc turns)) s at local versions grease ≡ packetsFrom (suc turns) at (drop at s) local versions grease
     unfolding repeated goOn
     once-more turns at l again =
         rw (step-in o at l) (go (x .header .said) (ltb n (length (drop at s))) refl refl)
@@ -205,7 +205,7 @@ module _ (s : List ℕ) (local : ℕ) (versions : List ℕ) (grease : Bool) wher
         n = x .packet .len
 
         go : (a : Answer Header) (b : Bool) → x .header .said ≡ a → ltb n (length (drop at s)) ≡ b
-            → goOn (stepOn at x .met) (stepOn at x) (λ next. repeated (suc turns) s next local versions grease) ≡ walkFrom (suc turns) at (drop at s) local versions grease
+            → goOn (stepOn at x .met) (stepOn at x) (λ next. repeated (suc turns) s next local versions grease) ≡ packetsFrom (suc turns) at (drop at s) local versions grease
         go (no k) b e f = stops _ (stepOn at x) _ at (met-no at x k e) ∙ sym (walk-no local versions grease (suc turns) at (drop at s) k e)
         go (ok h) true e f =
             let i : n < length (drop at s) = ltb-true _ _ f in
@@ -213,7 +213,7 @@ module _ (s : List ℕ) (local : ℕ) (versions : List ℕ) (grease : Bool) wher
             let u = split-taken (drop at s) local versions grease h e in
             let d : length (drop at s) ≡ length s - at = length-drop at s in
             goes _ (stepOn at x) _ at n (met-ok at x h e)
-            ∙ ap (λ (xs : List Step). stepOn at x ∷ xs) (again (at + n) (omega arith) (omega arith) ∙ rw (← drop-drop n at s))
+            ∙ ap (λ (xs : List PacketStep). stepOn at x ∷ xs) (again (at + n) (omega arith) (omega arith) ∙ rw (← drop-drop n at s))
             ∙ sym (walk-more local versions grease (drop at s) h e turns at i)
         go (ok h) false e f =
             let i : length (drop at s) ≤ n = ltb-false _ _ f in
@@ -222,26 +222,26 @@ module _ (s : List ℕ) (local : ℕ) (versions : List ℕ) (grease : Bool) wher
             ∙ rw (step-end o (at + n) (omega arith) (omega arith)) (sym (walk-last local versions grease (drop at s) h e (suc turns) at i))
 
     pub repeats : (turns at : ℕ) → at < length s → length s - at ≤ turns
-        → repeated (suc turns) s at local versions grease ≡ walkFrom turns at (drop at s) local versions grease
+        → repeated (suc turns) s at local versions grease ≡ packetsFrom turns at (drop at s) local versions grease
     repeats zero at l t = absurd (omega arith)
     repeats (suc turns) at l t = once-more turns at l (λ next m k. repeats turns next k (omega arith))
 
   -- a datagram that is refused as a whole
-  pub walk-refused : (k : ℕ) → headerAt s local versions grease ≡ refuse k → walkFrom (length s) 0 s local versions grease ≡ stopAt 0 k ∷ []
-  unfolding splitAt splitOn refuse noPacket stepOn metOn stopAt
+  pub walk-refused : (k : ℕ) → headerAt s local versions grease ≡ refusedHeader k → packetsFrom (length s) 0 s local versions grease ≡ stopAt 0 k ∷ []
+  unfolding splitAt splitOn refusedHeader noPacket stepOn metOn stopAt
   walk-refused k e =
-      let f : splitAt s local versions grease ≡ noPacket (refuse k) = rw e in
+      let f : splitAt s local versions grease ≡ noPacket (refusedHeader k) = rw e in
       walk-no local versions grease (length s) 0 s k (rw f) ∙ rw f
 
-  repeated-refused : (k n : ℕ) → stepAt s 0 local versions grease ≡ stopAt 0 k → repeated (suc n) s 0 local versions grease ≡ stopAt 0 k ∷ []
+  repeated-refused : (k n : ℕ) → packetStepAt s 0 local versions grease ≡ stopAt 0 k → repeated (suc n) s 0 local versions grease ≡ stopAt 0 k ∷ []
   unfolding repeated goOn stopAt
   repeated-refused k n e = rw e
 
-  pub header-outside : outside s local versions ≡ true → headerAt s local versions grease ≡ refuse 14
+  pub header-outside : outside s local versions ≡ true → headerAt s local versions grease ≡ refusedHeader 14
   unfolding headerBy if_then_else_
   header-outside o = rw o
 
-  header-empty : outside s local versions ≡ false → length s ≡ 0 → headerAt s local versions grease ≡ refuse 1
+  header-empty : outside s local versions ≡ false → length s ≡ 0 → headerAt s local versions grease ≡ refusedHeader 1
   unfolding headerBy if_then_else_ andThen
   header-empty o e = rw (o, ← fixed-none 1 s 0 (omega arith))
 
@@ -251,7 +251,7 @@ module _ (s : List ℕ) (local : ℕ) (versions : List ℕ) (grease : Bool) wher
   walk-steps = go (outside s local versions) (ltb 0 (length s)) refl refl
     where
       go : (a b : Bool) → outside s local versions ≡ a → ltb 0 (length s) ≡ b
-          → repeated (suc (length s)) s 0 local versions grease ≡ walkFrom (length s) 0 s local versions grease
+          → repeated (suc (length s)) s 0 local versions grease ≡ packetsFrom (length s) 0 s local versions grease
       go true b o f = repeated-refused 14 (length s) (step-out 0 o) ∙ sym (walk-refused 14 (header-outside o))
       go false false o f =
           let e : length s ≤ 0 = ltb-false _ _ f in
@@ -262,14 +262,14 @@ module _ (s : List ℕ) (local : ℕ) (versions : List ℕ) (grease : Bool) wher
 -- ---- a packet that a step meets
 
 module _ (s : List ℕ) (local : ℕ) (versions : List ℕ) (grease : Bool) (at start len : ℕ) where
-  abbrev Met-inside : Step → Type 0
+  abbrev Met-inside : PacketStep → Type 0
   Met-inside x = x .met ≡ packet start len → PacketInside (length s) at start len (x .header)
 
   on-inside : at < length s → (a : Answer Header) → splitAt (drop at s) local versions grease .header .said ≡ a
       → Met-inside (stepOn at (splitAt (drop at s) local versions grease))
   unfolding stepOn
   on-inside l (no k) e f =
-      let g : stopped at ≡ packet start len = sym (met-no at (splitAt (drop at s) local versions grease) k e) ∙ f in
+      let g : refusedAt at ≡ packet start len = sym (met-no at (splitAt (drop at s) local versions grease) k e) ∙ f in
       let z : _≡_ {A = ℕ} 0 1 = cc in
       absurd (omega arith)
   on-inside l (ok h) e f =
@@ -282,11 +282,11 @@ module _ (s : List ℕ) (local : ℕ) (versions : List ℕ) (grease : Bool) (at 
       record { starts = sym i; some = omega (arith, k .some); inside = omega (arith, k .inside); header = rw j at (k .header) }
 
   -- a step that meets no packet
-  never : (x : Step) → stepAt s at local versions grease ≡ x → (x .met ≡ packet start len → ⊥) → Met-inside (stepAt s at local versions grease)
-  never x e n f = absurd (n (sym (ap (λ (y : Step). y .met) e) ∙ f))
+  never : (x : PacketStep) → packetStepAt s at local versions grease ≡ x → (x .met ≡ packet start len → ⊥) → Met-inside (packetStepAt s at local versions grease)
+  never x e n f = absurd (n (sym (ap (λ (y : PacketStep). y .met) e) ∙ f))
 
   step-in-line : (a b c : Bool) → outside s local versions ≡ a → ltb 0 (length s) ≡ b → ltb at (length s) ≡ c
-      → Met-inside (stepAt s at local versions grease)
+      → Met-inside (packetStepAt s at local versions grease)
   unfolding stopAt
   step-in-line true b c o f g = never _ (step-out s local versions grease at o) (λ e. let z : _≡_ {A = ℕ} 0 1 = cc in omega arith)
   step-in-line false false c o f g =

@@ -16,7 +16,7 @@ use Rattle.shared.proofs.Laws.{long-inside}
 use Rattle.packet.specs.TypeBits.{PacketType}
 use Rattle.packet.specs.TypeBits as type
 use Rattle.packet.specs.Split.{nowhere, tokenIn}
-use Rattle.packet.specs.Header.{Header, initial, zeroRtt, handshake, retry, short, negotiate, Outcome, refuse, headed, initialAt, lengthAt, tailAt, bodyAt, longAt, shortAt, firstAt, headerBy}
+use Rattle.packet.specs.Header.{Header, initial, zeroRtt, handshake, retry, short, negotiate, Outcome, refusedHeader, headed, initialAt, lengthAt, tailAt, bodyAt, longAt, shortAt, firstAt, headerBy}
 
 -- the fewest bytes that a header of each kind has
 abbrev pub least : Header → ℕ
@@ -42,9 +42,9 @@ module _ (s : List ℕ) where
   no-within : (n k : ℕ) (o : Outcome) → k ≤ 14 → o .end ≡ 0 → o .said ≡ no k → Within s n o
   no-within n k o l z e = (λ h p. let z : _≡_ {A = ℕ} 0 1 = cc in absurd (omega arith), λ j p. let i : k ≡ j = cc in (omega arith, z))
 
-  refuse-within : (n k : ℕ) → k ≤ 14 → Within s n (refuse k)
-  unfolding refuse
-  refuse-within n k l = no-within n k (refuse k) l refl refl
+  refuse-within : (n k : ℕ) → k ≤ 14 → Within s n (refusedHeader k)
+  unfolding refusedHeader
+  refuse-within n k l = no-within n k (refusedHeader k) l refl refl
 
   headed-within : (n : ℕ) (dst src : ConnectionId) (v : ℕ) (h : Header) (end : ℕ) → Ends s n h end → Within s n (headed dst src v h end)
   unfolding headed

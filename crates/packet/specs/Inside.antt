@@ -9,7 +9,7 @@ use lib.ListN.{length}
 use Rattle.coding.specs.declared.Place.{Place}
 use Rattle.packet.specs.Header.{Outcome}
 use Rattle.packet.specs.Split.{Split, splitAt, tokenIn}
-use Rattle.packet.specs.Walk.{packet, stopped, Step, stepAt, walkAt}
+use Rattle.packet.specs.Walk.{packet, refusedAt, PacketStep, packetStepAt, walkAt}
 
 -- a header ends inside its packet of n bytes, and the token lies inside the header
 pub record HeaderInside (n : ℕ) (o : Outcome) : Type 0 where
@@ -31,10 +31,10 @@ pub record PacketInside (n at start len : ℕ) (o : Outcome) : Type 0 where
   pub header : HeaderInside len o
 
 -- steps from a place on: each packet stands where the one before it ended, and the last ends with the datagram or before a refusal
-pub data InLine (n : ℕ) : ℕ → List Step → Type 0 where
+pub data InLine (n : ℕ) : ℕ → List PacketStep → Type 0 where
   whole : {at : ℕ} → at ≡ n → InLine n at []
-  tailRefused : {at : ℕ} {x : Step} → x .met ≡ stopped at → at ≤ n → InLine n at (x ∷ [])
-  follows : {at start len : ℕ} {x : Step} {xs : List Step} → x .met ≡ packet start len → PacketInside n at start len (x .header) →
+  tailRefused : {at : ℕ} {x : PacketStep} → x .met ≡ refusedAt at → at ≤ n → InLine n at (x ∷ [])
+  follows : {at start len : ℕ} {x : PacketStep} {xs : List PacketStep} → x .met ≡ packet start len → PacketInside n at start len (x .header) →
       InLine n (start + len) xs → InLine n at (x ∷ xs)
 
 -- the three laws
@@ -44,7 +44,7 @@ SplitsInside = (s : List ℕ) (local : ℕ) (versions : List ℕ) (grease : Bool
 abbrev pub StepsInside : Type 0
 StepsInside =
     (s : List ℕ) (local : ℕ) (versions : List ℕ) (grease : Bool) (at start len : ℕ) →
-    stepAt s at local versions grease .met ≡ packet start len → PacketInside (length s) at start len (stepAt s at local versions grease .header)
+    packetStepAt s at local versions grease .met ≡ packet start len → PacketInside (length s) at start len (packetStepAt s at local versions grease .header)
 
 abbrev pub WalksInside : Type 0
 WalksInside = (s : List ℕ) (local : ℕ) (versions : List ℕ) (grease : Bool) → InLine (length s) 0 (walkAt s local versions grease)

@@ -21,7 +21,7 @@ ghost use Rattle.coding.specs.Refusals.{numberOf};
 ghost use Rattle.shared.specs.Cid.{cidOn};
 ghost use Rattle.shared.specs.FirstByte.{spinBit};
 ghost use Rattle.packet.specs.TypeBits.{typeOf};
-ghost use Rattle.packet.specs.Header.{refuse, outside, unfixed, listed, headed, initialAt, lengthAt, tailAt, bodyAt, longAt, shortAt, firstAt, headerAt};
+ghost use Rattle.packet.specs.Header.{refusedHeader, outside, unfixed, listed, headed, initialAt, lengthAt, tailAt, bodyAt, longAt, shortAt, firstAt, headerAt};
 ghost use Rattle.packet.specs.Said.{longOf, longTypeOf, outcomeOf};
 
 // The most versions that a reader may list.
@@ -29,7 +29,7 @@ pub const MAX_VERSIONS: usize = 16;
 
 // A refusal that carries nothing.
 pub(crate) fn refused(why: Refusal) -> Decoded
-    ensures { λ r. ⌜ outcomeOf r ≡ refuse (numberOf why) ⌝ }
+    ensures { λ r. ⌜ outcomeOf r ≡ refusedHeader (numberOf why) ⌝ }
 {
     let dst = ConnectionId::empty();
     let src = ConnectionId::empty();

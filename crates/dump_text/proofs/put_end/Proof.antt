@@ -1,4 +1,4 @@
-use Rattle.dump_text.specs.Dump.{word, endLine}
+use Rattle.dump_text.specs.Dump.{numberThen, totalLine}
 use Rattle.dump_text.proofs.Puts.{room-after, two}
 use borrow.Author.Needs.{needs}
 use Rattle.dump_text.proofs.put_end.Statement.{statement}
@@ -11,14 +11,14 @@ put-slice-requires : tie.Need-put-slice-requires
 put-slice-requires c κs = search needs
 
 put-word-requires : tie.Need-put-word-requires
-unfolding endLine
-put-word-requires c κs = room-after _ (word (c .before .before .before .before .before .before .before .args .total) 0x0a) (c .before .before .before .before .before .before .before .pre) (c .before .before .before .put-slice .ensures)
+unfolding totalLine
+put-word-requires c κs = room-after _ (numberThen (c .before .before .before .before .before .before .before .args .total) 0x0a) (c .before .before .before .before .before .before .before .pre) (c .before .before .before .put-slice .ensures)
 
 same-length : tie.Need-same-length
 same-length c = search needs
 
 returns : tie.Need-returns
-unfolding endLine
+unfolding totalLine
 returns c = two _ _ (c .before .before .before .before .before .before .before .before .before .before .pre) (c .before .before .before .before .before .before .put-slice .ensures) (c .before .before .put-word .ensures)
 
 pub put-end-spec : {M : Type 1} → statement M

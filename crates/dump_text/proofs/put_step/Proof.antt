@@ -5,7 +5,7 @@ use Prim.Native.Nat.{ℕ}
 use lib.ListN.{length}
 use denote.Ref.{now}
 use Rattle.packet.proofs.Walks.{step-inside}
-use Rattle.dump_text.specs.Turns.{stepHere, lineAt, nextIn, placeIn}
+use Rattle.dump_text.specs.Turns.{stepHere, lineAt, nextIn, textPlace}
 use Rattle.dump_text.proofs.Texts.{found-end, found-packet, found-refused, found-met}
 use borrow.Author.Needs.{needs}
 use Rattle.dump_text.proofs.put_step.Statement.{statement}
@@ -70,7 +70,7 @@ same-length : tie.Need-same-length
 same-length c = search needs
 
 returns : tie.Need-returns
-unfolding lineAt nextIn placeIn
+unfolding lineAt nextIn textPlace
 returns c =
     let a = c .before .before .before .before .before .before .before .before .before .before .before .args in
     let x = c .before .before .before .before .before .before .before .step in
@@ -83,7 +83,7 @@ same-length-2 : tie.Need-same-length-2
 same-length-2 c = search needs
 
 returns-2 : tie.Need-returns-2
-unfolding lineAt nextIn placeIn
+unfolding lineAt nextIn textPlace
 returns-2 c =
     let a = c .before .before .before .before .before .before .before .before .before .before .before .before .before .args in
     let x = c .before .before .before .before .before .before .before .before .before .step in
@@ -96,7 +96,7 @@ same-length-3 : tie.Need-same-length-3
 same-length-3 c = search needs
 
 returns-3 : tie.Need-returns-3
-unfolding lineAt nextIn placeIn
+unfolding lineAt nextIn textPlace
 returns-3 c =
     let a = c .before .before .before .before .before .before .before .before .before .before .before .before .before .args in
     let x = c .before .before .before .before .before .before .before .before .before .step in

@@ -1,6 +1,6 @@
 use native.Mathlib.Omega.{arith}
 use Rattle.shared.proofs.Laws.{one-byte}
-use Rattle.dump_text.specs.Dump.{word}
+use Rattle.dump_text.specs.Dump.{numberThen}
 use Rattle.dump_text.proofs.Puts.{two}
 use borrow.Author.Needs.{needs}
 use Rattle.dump_text.proofs.put_word.Statement.{statement}
@@ -16,7 +16,7 @@ same-length : tie.Need-same-length
 same-length c = search needs
 
 returns : tie.Need-returns
-unfolding word
+unfolding numberThen
 returns c =
     let a = c .before .before .before .before .before .before .before .before .before .args in
     two _ _ (c .before .before .before .before .before .before .before .before .before .pre) (c .before .before .before .before .before .before .put-decimal .ensures) (rw (one-byte (a .after) (omega arith)) at (c .before .before .put-u8 .ensures))

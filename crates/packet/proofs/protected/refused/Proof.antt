@@ -1,4 +1,4 @@
-use Rattle.packet.specs.Header.{refuse}
+use Rattle.packet.specs.Header.{refusedHeader}
 use Rattle.packet.specs.Said.{headerOf, outcomeOf}
 use borrow.Author.Needs.{needs}
 use Rattle.packet.proofs.protected.refused.Statement.{statement}
@@ -11,7 +11,7 @@ empty-requires-2 : tie.Need-empty-requires-2
 empty-requires-2 c κs = search needs
 
 returns : tie.Need-returns
-unfolding outcomeOf headerOf refuse
+unfolding outcomeOf headerOf refusedHeader
 returns c = rw (c .before .empty .ensures, c .empty2 .ensures)
 
 pub refused-spec : {M : Type 1} → statement M
