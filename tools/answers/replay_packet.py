@@ -12,7 +12,7 @@ CLASSES = {
     'decode': KINDS + HEADER + OUTSIDE,
     'split': [f'{kind}, {rest}' for kind in KINDS[:3] for rest in ('a rest', 'no rest')] + KINDS[3:] + HEADER + ['no 7'] + OUTSIDE,
     'walk': WALKED + [f'refused {n}{where}' for n in (1, 2, 3, 4, 5, 6, 7) for where in WHERE] + ['refused 14' + mark for mark in (SIZE, OVER, COUNT)],
-    'dump': WALKED + [f'refused {n}{where}' for n in (1, 2, 3, 4, 5, 7) for where in WHERE] + ['refused 14' + SIZE],
+    'dump': WALKED + [f'refused {n}{where}' for n in (1, 2, 3, 4, 5, 7) for where in WHERE] + ['refused 14' + SIZE, 'no 15'],
 }
 
 
@@ -35,5 +35,5 @@ def walked(packets, mark):
 DETAIL = {'decode': lambda q, a: a[1], 'split': split}
 MANY = {
     'walk': lambda question, answer, mark: walked(answer.split('; '), mark),
-    'dump': lambda question, answer, mark: walked(answer.split(';')[:-1], mark),
+    'dump': lambda question, answer, mark: [answer] if answer == 'no 15' else walked(answer.split(';')[:-1], mark),
 }

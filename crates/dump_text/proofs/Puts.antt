@@ -1,4 +1,4 @@
--- One put after another. Assumes nothing.
+-- One put after another.
 use mathlib.Core.Path.{_≡_}
 use mathlib.Core.List.{List, _++_}
 use Prim.Native.Nat.{ℕ, _+_, _≤_}

@@ -1,18 +1,17 @@
 -- The dump's text: document 01, "The dump program". Characters are in ASCII.
-use Prim.Native.Nat.{ℕ, _+_, _*_}
+use Prim.Native.Nat.{ℕ, _+_}
 use mathlib.Core.List.{List, [], _∷_, _++_}
 use mathlib.Core.Bool.{false}
 use mathlib.Core.Option.{Option, none, some}
 use lib.ListN.{length}
-use lib.Dec.{leb}
-use Rattle.coding.specs.Words.{if_then_else_, Answer, no, ok}
+use Rattle.coding.specs.Words.{Answer, no, ok}
 use Rattle.text.specs.Decimal.{decimal}
 use Rattle.packet.specs.Header.{Header, initial, zeroRtt, handshake, retry, short, negotiate, Outcome}
-use Rattle.packet.specs.Walk.{Met, ended, packet, stopped, Step, walkAt}
+use Rattle.packet.specs.Walk.{Met, atEnd, packet, refusedAt, PacketStep, walkAt}
 
 -- a number and the character after it
-unfoldable pub word : ℕ → ℕ → List ℕ
-word x after = decimal x ++ (after ∷ [])
+unfoldable pub numberThen : ℕ → ℕ → List ℕ
+numberThen x after = decimal x ++ (after ∷ [])
 
 -- "initial ", "0rtt ", "handshake ", "retry ", "short ", "vneg "
 unfoldable pub kindWord : Answer Header → List ℕ
@@ -30,46 +29,38 @@ refusalIn (ok h) = 0
 
 -- a packet: start, length, kind, and header length within the packet
 unfoldable pub packetLine : ℕ → ℕ → Outcome → List ℕ
-packetLine start len h = word start 0x20 ++ word len 0x20 ++ kindWord (h .said) ++ word (h .end) 0x0a
+packetLine start len h = numberThen start 0x20 ++ numberThen len 0x20 ++ kindWord (h .said) ++ numberThen (h .end) 0x0a
 
 -- "refused ", start, number
 unfoldable pub refusedLine : ℕ → ℕ → List ℕ
-refusedLine start k = (0x72 ∷ 0x65 ∷ 0x66 ∷ 0x75 ∷ 0x73 ∷ 0x65 ∷ 0x64 ∷ 0x20 ∷ []) ++ word start 0x20 ++ word k 0x0a
+refusedLine start k = (0x72 ∷ 0x65 ∷ 0x66 ∷ 0x75 ∷ 0x73 ∷ 0x65 ∷ 0x64 ∷ 0x20 ∷ []) ++ numberThen start 0x20 ++ numberThen k 0x0a
 
 -- "end ", and the total
-unfoldable pub endLine : ℕ → List ℕ
-endLine total = (0x65 ∷ 0x6e ∷ 0x64 ∷ 0x20 ∷ []) ++ word total 0x0a
+unfoldable pub totalLine : ℕ → List ℕ
+totalLine total = (0x65 ∷ 0x6e ∷ 0x64 ∷ 0x20 ∷ []) ++ numberThen total 0x0a
 
 -- the line of each step
 unfoldable pub lineOf : ℕ → Met → Outcome → List ℕ
-lineOf total ended h = endLine total
+lineOf total atEnd h = totalLine total
 lineOf total (packet start len) h = packetLine start len h
-lineOf total (stopped start) h = refusedLine start (refusalIn (h .said))
+lineOf total (refusedAt start) h = refusedLine start (refusalIn (h .said))
 
 -- the last line is "end" or "refused"
 unfoldable pub afterOf : Met → List ℕ → List ℕ
-afterOf ended rest = []
+afterOf atEnd rest = []
 afterOf (packet start len) rest = rest
-afterOf (stopped start) rest = []
+afterOf (refusedAt start) rest = []
 
-unfoldable pub linesOf : ℕ → List Step → List ℕ
-linesOf total [] = endLine total
+unfoldable pub linesOf : ℕ → List PacketStep → List ℕ
+linesOf total [] = totalLine total
 linesOf total (x ∷ xs) = lineOf total (x .met) (x .header) ++ afterOf (x .met) (linesOf total xs)
 
 -- local CID length 0, version 1, grease off
 unfoldable pub dumpText : List ℕ → List ℕ
 dumpText s = linesOf (length s) (walkAt s 0 (1 ∷ []) false)
 
--- room for the text of every datagram of this length
-unfoldable pub dumpRoom : List ℕ → ℕ
-dumpRoom s = 4 * length s + 64
-
--- what is written into a buffer: 15 where it has less room
-unfoldable pub dumpOut : List ℕ → ℕ → Answer (List ℕ)
-dumpOut s room = if leb (dumpRoom s) room then ok (dumpText s) else no 15
-
 -- where the next step is
 unfoldable pub nextOf : Met → Option ℕ
-nextOf ended = none
+nextOf atEnd = none
 nextOf (packet start len) = some (start + len)
-nextOf (stopped start) = none
+nextOf (refusedAt start) = none

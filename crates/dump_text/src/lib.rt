@@ -10,12 +10,17 @@ ghost use mathlib.Core.Bool.{false};
 ghost use mathlib.Core.List.{[], _∷_};
 ghost use Prim.Native.Nat.{_+_, _≤_};
 ghost use lib.ListN.{length};
+ghost use lib.Dec.{ltb};
+ghost use Rattle.coding.specs.Words.{ok};
 ghost use Rattle.coding.specs.Said.{wroteOf};
 ghost use Rattle.coding.specs.Writing.{Put, Written};
-ghost use Rattle.packet.specs.Walk.{stepAt};
+ghost use Rattle.packet.specs.Walk.{packetStepAt};
 ghost use Rattle.packet.specs.Said.{headerOf, outcomeOf};
-ghost use Rattle.dump_text.specs.Dump.{word, kindWord, refusalIn, packetLine, refusedLine, endLine, dumpOut};
-ghost use Rattle.dump_text.specs.Turns.{lineAt, Turned};
+ghost use Rattle.dump_text.specs.Dump.{numberThen, kindWord, refusalIn, packetLine, refusedLine, totalLine, dumpText};
+ghost use Rattle.dump_text.specs.Turns.{lineAt, Counted, Turned};
+
+// No line is longer than this, whatever the numbers in it.
+const MAX_LINE: usize = 80;
 
 // The place in the datagram where the next step is, where there is one, and the place past the text so far.
 enum Turn {
@@ -25,8 +30,8 @@ enum Turn {
 
 // A number and the character after it.
 fn put_word(buf: &mut [u8], at: usize, x: u64, after: u8) -> usize
-    requires { ⌜ at + length (word x after) ≤ length (now buf) ⌝ }
-    ensures { λ r. ⌜ Put (word x after) (now (buf .entry)) at r (now (buf .exit)) ⌝ }
+    requires { ⌜ at + length (numberThen x after) ≤ length (now buf) ⌝ }
+    ensures { λ r. ⌜ Put (numberThen x after) (now (buf .entry)) at r (now (buf .exit)) ⌝ }
 {
     let next = text::put_decimal(buf, at, x);
     coding::put_u8(buf, next, after)
@@ -84,8 +89,8 @@ fn put_refused(buf: &mut [u8], at: usize, start: usize, number: u64) -> usize
 }
 
 fn put_end(buf: &mut [u8], at: usize, total: usize) -> usize
-    requires { ⌜ at + length (endLine total) ≤ length (now buf) ⌝ }
-    ensures { λ r. ⌜ Put (endLine total) (now (buf .entry)) at r (now (buf .exit)) ⌝ }
+    requires { ⌜ at + length (totalLine total) ≤ length (now buf) ⌝ }
+    ensures { λ r. ⌜ Put (totalLine total) (now (buf .entry)) at r (now (buf .exit)) ⌝ }
 {
     let a = coding::put_slice(buf, at, b"end ");
     put_word(buf, a, total as u64, b'\n')
@@ -113,14 +118,53 @@ fn put_step(s: &[u8], at: usize, buf: &mut [u8], p: usize) -> Turn
     }
 }
 
+// The same with the line in a buffer of its own, which gives its length.
+fn line_len(s: &[u8], at: usize) -> Turn
+    ensures { λ r. ⌜ Counted (now (s .entry)) at r ⌝ }
+{
+    let mut line = [0u8; MAX_LINE];
+    put_step(s, at, &mut line, 0)
+}
+
+// The length of the whole text.
+fn text_len(s: &[u8]) -> usize
+    ensures { λ r. ⌜ r ≡ length (dumpText (now (s .entry))) ⌝ }
+{
+    let mut at = 0;
+    let mut n = 0;
+    loop {
+        let t = line_len(s, at);
+        match t {
+            Turn::More(next, len) => {
+                at = next;
+                n += len;
+            }
+            Turn::Done(len) => {
+                return n + len;
+            }
+        }
+    }
+}
+
+// Whether the whole text is longer than this. Four bytes for each byte of the datagram and 64 are always enough, so there nothing
+// is counted.
+fn is_short(s: &[u8], room: usize) -> bool
+    ensures { λ r. ⌜ r ≡ ltb room (length (dumpText (now (s .entry)))) ⌝ }
+{
+    if room < 64 {
+        return room < text_len(s);
+    }
+    if (room - 64) / 4 < s.len() {
+        return room < text_len(s);
+    }
+    false
+}
+
 // The whole text of a datagram, from byte 0 of buf on.
 pub fn dump(s: &[u8], buf: &mut [u8]) -> Wrote
-    ensures { λ r. ⌜ Written (dumpOut (now (s .entry)) (length (now (buf .entry)))) (now (buf .entry)) (wroteOf r) (now (buf .exit)) ⌝ }
+    ensures { λ r. ⌜ Written (ok (dumpText (now (s .entry)))) (now (buf .entry)) (wroteOf r) (now (buf .exit)) ⌝ }
 {
-    if buf.len() < 64 {
-        return Wrote::Refused(Refusal::Room);
-    }
-    if (buf.len() - 64) / 4 < s.len() {
+    if is_short(s, buf.len()) {
         return Wrote::Refused(Refusal::Room);
     }
     let mut at = 0;

@@ -16,7 +16,7 @@ use Rattle.number.specs.Cutting as number
 use Rattle.number.specs.Cutting.{cutMade}
 use Rattle.number.specs.Expanding.{expanded}
 use Rattle.shared.specs.Cid.{cidOf}
-use Rattle.packet.specs.Header.{Outcome, negotiate, refuse, headed, headerAt}
+use Rattle.packet.specs.Header.{Outcome, negotiate, refusedHeader, headed, headerAt}
 use Rattle.ack.specs.Step.{Step, range, end, stepping}
 use Rattle.frame.specs.Format.{Value, num, place, none, said}
 use Rattle.frame.specs.Table as frame
@@ -121,12 +121,12 @@ table =
     -- 2^62 is 14
     writeVar (2 ^ 62) gives refused 14 ∷
     -- 80 00000000 00 00 is 2, with grease Version Negotiation 0
-    readHeader (0x80 ∷ 0x00 ∷ 0x00 ∷ 0x00 ∷ 0x00 ∷ 0x00 ∷ 0x00 ∷ []) false gives header (refuse 2) ∷
+    readHeader (0x80 ∷ 0x00 ∷ 0x00 ∷ 0x00 ∷ 0x00 ∷ 0x00 ∷ 0x00 ∷ []) false gives header (refusedHeader 2) ∷
     readHeader (0x80 ∷ 0x00 ∷ 0x00 ∷ 0x00 ∷ 0x00 ∷ 0x00 ∷ 0x00 ∷ []) true gives header (headed (cidOf []) (cidOf []) 0 (negotiate 0) 7) ∷
     -- e0 00000002 00 00 is 4
     readHeader (0xe0 ∷ 0x00 ∷ 0x00 ∷ 0x00 ∷ 0x02 ∷ 0x00 ∷ 0x00 ∷ []) false gives header (carrying 4 [] [] 2) ∷
     -- c0 00000001 00 00 05 aa is 5
-    readHeader (0xc0 ∷ 0x00 ∷ 0x00 ∷ 0x00 ∷ 0x01 ∷ 0x00 ∷ 0x00 ∷ 0x05 ∷ 0xaa ∷ []) false gives header (refuse 5) ∷
+    readHeader (0xc0 ∷ 0x00 ∷ 0x00 ∷ 0x00 ∷ 0x01 ∷ 0x00 ∷ 0x00 ∷ 0x05 ∷ 0xaa ∷ []) false gives header (refusedHeader 5) ∷
     -- d = 127 takes one byte, 128 two, 2147483648 is 16
     cutNumber (1000 + 127) 1000 gives cutAs 1 0x67 ∷
     cutNumber (1000 + 128) 1000 gives cutAs 2 0x0468 ∷

@@ -10,7 +10,7 @@ use Rattle.coding.specs.Words.{if_then_else_, Answer, no, ok}
 use Rattle.coding.specs.declared.Place.{Place}
 use Rattle.packet.specs.Header.{Header, initial, zeroRtt, handshake, retry, short, negotiate, Outcome}
 use Rattle.packet.specs.Split.{nowhere}
-use Rattle.packet.specs.Walk.{Met, ended, packet, stopped, Step, stepAt}
+use Rattle.packet.specs.Walk.{Met, atEnd, packet, refusedAt, PacketStep, packetStepAt}
 use Rattle.protect.specs.Steps.{leftBy, readOff, sampleAt, Opened, finishAt, finished, done, maskAt}
 use Rattle.protect.specs.Steps as opened
 use Rattle.frame.specs.Table.{flag}
@@ -94,17 +94,17 @@ noPacket k start =
     }
 
 abbrev pub metRecord : ℕ → Met → Outcome → SplitAnswer
-metRecord at ended h = noPacket 0 at
+metRecord at atEnd h = noPacket 0 at
 metRecord at (packet start len) h = headerRecord start len h
-metRecord at (stopped start) h = headerRecord start 0 h
+metRecord at (refusedAt start) h = headerRecord start 0 h
 
-abbrev pub stepRecord : ℕ → Step → SplitAnswer
+abbrev pub stepRecord : ℕ → PacketStep → SplitAnswer
 stepRecord at x = metRecord at (x .met) (x .header)
 
 -- one step of the walk
 abbrev pub splitFor : List ℕ → ℕ → ℕ → List ℕ → ℕ → SplitAnswer
 splitFor s at local versions grease =
-    if ltb 1 grease then noPacket 14 at else stepRecord at (stepAt s at local versions (eqb grease 1))
+    if ltb 1 grease then noPacket 14 at else stepRecord at (packetStepAt s at local versions (eqb grease 1))
 
 -- ---- the sample's place; one of no bytes where there is none
 

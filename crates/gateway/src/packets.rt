@@ -17,7 +17,7 @@ use shared::CutNumber;
 ghost use mathlib.Core.Path.{_≡_};
 ghost use lib.ListN.{length};
 ghost use Rattle.frame.specs.Table.{flag};
-ghost use Rattle.packet.specs.Said.{headerOf, outcomeOf, stepOf};
+ghost use Rattle.packet.specs.Said.{headerOf, outcomeOf, packetStepOf};
 ghost use Rattle.protect.specs.Said.{longHeader, numberedOf, numberLenOf, sampleOf, finishedOf};
 ghost use Rattle.gateway.specs.Arguments.{longKind, numberedKind, numberGiven};
 ghost use Rattle.gateway.specs.Packets.{headerHas, headerRefused, numbersOf, dstAt, srcAt, headerRecord, noPacket, stepRecord, noSample, sampleRecord, headerSpan, payloadSpan, notOpened, openedWith, unmaskRecord};
@@ -197,7 +197,7 @@ pub(crate) fn no_packet(refusal: u8, start: usize) -> SplitAnswer
 
 // What a step of the walk at a place says.
 pub(crate) fn step_record(at: usize, x: Stepped) -> SplitAnswer
-    ensures { λ r. ⌜ r ≡ stepRecord at (stepOf x) ⌝ }
+    ensures { λ r. ⌜ r ≡ stepRecord at (packetStepOf x) ⌝ }
 {
     let found = x.found;
     let plain = x.plain_header;

@@ -1,9 +1,9 @@
--- The cases of the definitions, each a law that a proof cites instead of the definition's text. Assumes nothing.
-use mathlib.Core.Path.{_≡_, refl, sym, ap, _∙_}
-use mathlib.Core.List.{List, [], _∷_}
+-- The cases of the definitions, each a law that a proof cites instead of the definition's text.
+use mathlib.Core.Path.{_≡_, refl}
+use mathlib.Core.List.{List}
 use mathlib.Core.Bool.{Bool, true, false}
-use mathlib.Core.Option.{Option, none, some}
-use Prim.Native.Nat.{ℕ, _+_, _-_, _≤_, _<_}
+use mathlib.Core.Option.{none, some}
+use Prim.Native.Nat.{ℕ, _+_, _-_, _*_, _/_, _%_, _≤_, _<_}
 use native.Mathlib.Numerals.{add-one}
 use native.Mathlib.Omega.{arith}
 use lib.ListN.{length, getD, take, drop, drop-of-length-le, length-drop}
@@ -43,6 +43,11 @@ pub long-tail : (t : LongType) (made : Header → ℕ → Outcome) (s : List ℕ
 unfolding tailAt longOf longTypeOf
 long-tail ty.Handshake made s at = refl
 long-tail ty.ZeroRtt made s at = refl
+
+-- ---- the bits below the form bit, by the two halves of a byte
+
+pub low-seven : (b : ℕ) → b % 128 ≡ b / 16 % 8 * 16 + b % 16
+low-seven b = omega arith
 
 -- ---- a split, by what the header says
 

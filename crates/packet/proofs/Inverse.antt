@@ -1,4 +1,4 @@
--- Each map from the code's answers to the paper's words has an inverse: what is said settles the answer. Assumes nothing.
+-- Each map from the code's answers to the paper's words has an inverse: what is said settles the answer.
 use mathlib.Core.Path.{_≡_, refl, ap}
 use mathlib.Core.Option.{Option, none, some}
 use Prim.Native.Nat.{ℕ}
@@ -12,8 +12,8 @@ use Rattle.packet.specs.TypeBits.{PacketType}
 use Rattle.packet.specs.TypeBits as type
 use Rattle.packet.specs.Header.{Header, initial, zeroRtt, handshake, retry, short, negotiate, Outcome}
 use Rattle.packet.specs.Split.{Split}
-use Rattle.packet.specs.Walk.{Met, ended, packet, stopped, Step}
-use Rattle.packet.specs.Said.{longOf, longTypeOf, headerOf, outcomeOf, lenOf, spaceOf, restOf, splitOf, metOf, stepOf}
+use Rattle.packet.specs.Walk.{Met, atEnd, packet, refusedAt, PacketStep}
+use Rattle.packet.specs.Said.{longOf, longTypeOf, headerOf, outcomeOf, lenOf, spaceOf, restOf, splitOf, metOf, packetStepOf}
 use Rattle.packet.specs.declared.header.LongType.the-variants as ty
 use Rattle.packet.specs.declared.header.LongHeaderType.{LongHeaderType}
 use Rattle.packet.specs.declared.header.LongHeaderType.the-variants as kind
@@ -129,9 +129,9 @@ split-one = one-by splitOf splitBack back
     back d = rw (decoded-back (d .«plain_header»), rest-back (d .rest))
 
 abbrev metBack : Met → Found
-metBack ended = found.End
+metBack atEnd = found.End
 metBack (packet start len) = found.Packet (record { start = start; len = len })
-metBack (stopped start) = found.Refused start
+metBack (refusedAt start) = found.Refused start
 
 met-back : (f : Found) → metBack (metOf f) ≡ f
 unfolding metOf
@@ -139,12 +139,12 @@ met-back found.End = refl
 met-back (found.Packet p) = refl
 met-back (found.Refused start) = refl
 
-abbrev stepBack : Step → Stepped
+abbrev stepBack : PacketStep → Stepped
 stepBack x = record { found = metBack (x .met); «plain_header» = decodedBack (x .header) }
 
-pub step-one : (x y : Stepped) (o : Step) → stepOf x ≡ o → stepOf y ≡ o → x ≡ y
-unfolding stepOf
-step-one = one-by stepOf stepBack back
+pub step-one : (x y : Stepped) (o : PacketStep) → packetStepOf x ≡ o → packetStepOf y ≡ o → x ≡ y
+unfolding packetStepOf
+step-one = one-by packetStepOf stepBack back
   where
-    back : (x : Stepped) → stepBack (stepOf x) ≡ x
+    back : (x : Stepped) → stepBack (packetStepOf x) ≡ x
     back x = rw (met-back (x .found), decoded-back (x .«plain_header»))

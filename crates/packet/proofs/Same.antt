@@ -1,5 +1,5 @@
 -- What a header's reading looks at: the bits of byte 0 that steer, and the bytes up to the header's end. Two datagrams of equal
--- length that agree there get equal answers, whatever the type bits mean. Assumes nothing.
+-- length that agree there get equal answers, whatever the type bits mean.
 use mathlib.Core.Path.{_≡_, refl, sym, ap, _∙_}
 use mathlib.Core.List.{List, [], _∷_}
 use mathlib.Core.Bool.{Bool, true, false}
@@ -9,25 +9,25 @@ use lib.ListN.{length, take, drop, getD, length-take, length-drop}
 use lib.Seq.{getD-take, getD-drop, ext-getD}
 use lib.Dec.{ltb, eqb}
 use borrow.Author.Tests.{ltb-true, ltb-false, lt-ltb, le-ltb, le-leb}
-use Rattle.coding.specs.Words.{if_then_else_, Got, cut, got, andThen, Answer, no, ok}
+use Rattle.coding.specs.Words.{if_then_else_, got, andThen, no, ok}
 use Rattle.coding.specs.Bytes.{byteAt, be}
 use Rattle.coding.specs.Places.{partOf}
 use Rattle.coding.specs.Reading.{fixedAt, takeAt}
 use Rattle.coding.specs.Varint.{varAt, varLen}
 use Rattle.coding.specs.declared.Place.{Place}
 use Rattle.coding.proofs.Laws.{fixed-inside, take-inside, var-inside, read-var}
-use Rattle.coding.proofs.Rules.{if-all, then-all}
-use Rattle.shared.specs.Cid.{longCidAt, cidOf, cidOn}
+use Rattle.coding.proofs.Rules.{then-all}
+use Rattle.shared.specs.Cid.{longCidAt, cidOn}
 use Rattle.shared.specs.declared.cid.ConnectionId.{ConnectionId}
 use Rattle.shared.proofs.Laws.{long-inside}
 use Rattle.packet.specs.TypeBits.{PacketType}
 use Rattle.packet.specs.TypeBits as type
-use Rattle.packet.specs.Header.{Header, initial, zeroRtt, handshake, retry, short, negotiate, Outcome, refuse, outside, unfixed, listed, headed, initialAt, lengthAt, tailAt, bodyAt, longAt, shortAt, firstAt, headerBy}
-use Rattle.packet.proofs.Within.{Within, body-within}
+use Rattle.packet.specs.Header.{Header, initial, zeroRtt, handshake, retry, short, negotiate, Outcome, refusedHeader, outside, unfixed, listed, headed, initialAt, lengthAt, tailAt, bodyAt, longAt, shortAt, firstAt, headerBy}
+use Rattle.packet.proofs.Within.{body-within}
 
 -- a refusal is no header
-refused-not : {P : Type 0} (k : ℕ) (h : Header) → refuse k .said ≡ ok h → P
-unfolding refuse
+refused-not : {P : Type 0} (k : ℕ) (h : Header) → refusedHeader k .said ≡ ok h → P
+unfolding refusedHeader
 refused-not k h p = let z : _≡_ {A = ℕ} 0 1 = cc in absurd (omega arith)
 
 -- y is x, where x has the header h and ends at `end` at the latest
@@ -160,7 +160,7 @@ module _ (s t : List ℕ) (end : ℕ) (long : length s ≡ length t) (same : (i 
       first-long l e free =
           let k : 128 ≤ c = omega arith in
           let f : c / 64 % 2 ≡ b / 64 % 2 = omega arith in
-          rw (le-ltb b 128 l, le-ltb c 128 k, f, ← e) (if-same h end (unfixed b grease) (refuse 2) (longAt types (b / 16) (c % 16) t versions) (refuse 2) (longAt types (b / 16) (b % 16) s versions)
+          rw (le-ltb b 128 l, le-ltb c 128 k, f, ← e) (if-same h end (unfixed b grease) (refusedHeader 2) (longAt types (b / 16) (c % 16) t versions) (refusedHeader 2) (longAt types (b / 16) (b % 16) s versions)
           (λ p q. refl)
           (long-same (b / 16) (b % 16) (c % 16) versions free))
 
@@ -169,11 +169,11 @@ module _ (s t : List ℕ) (end : ℕ) (long : length s ≡ length t) (same : (i 
       first-short l e =
           let k : c < 128 = omega arith in
           let f : c / 64 % 2 ≡ b / 64 % 2 = omega arith in
-          rw (lt-ltb b 128 l, lt-ltb c 128 k, f, ← e) (if-same h end (unfixed b grease) (refuse 2) (shortAt (b / 32) t local) (refuse 2) (shortAt (b / 32) s local) (λ p q. refl) (short-same (b / 32) local))
+          rw (lt-ltb b 128 l, lt-ltb c 128 k, f, ← e) (if-same h end (unfixed b grease) (refusedHeader 2) (shortAt (b / 32) t local) (refusedHeader 2) (shortAt (b / 32) s local) (λ p q. refl) (short-same (b / 32) local))
 
     module _ (local : ℕ) (versions : List ℕ) (grease : Bool) where
       abbrev past : List ℕ → Outcome
-      past u = andThen (fixedAt 1 u 0) (refuse 1) (λ first n. firstAt types first u local versions grease)
+      past u = andThen (fixedAt 1 u 0) (refusedHeader 1) (λ first n. firstAt types first u local versions grease)
 
       module _ (steers : Steers h (byteAt s 0) (byteAt t 0)) where
         form-same : (x : Bool) → ltb (byteAt s 0) 128 ≡ x
@@ -195,7 +195,7 @@ module _ (s t : List ℕ) (end : ℕ) (long : length s ≡ length t) (same : (i 
         unfolding headerBy outside
         all-same =
             rw (← long)
-            (if-same h end (outside s local versions) (refuse 14) (past t) (refuse 14) (past s) (λ p q. refl)
+            (if-same h end (outside s local versions) (refusedHeader 14) (past t) (refusedHeader 14) (past s) (λ p q. refl)
             (then-all (Goes h end (past t)) (fixedAt 1 s 0) _ _
             (λ e p q. refused-not 1 h p)
             first-same))

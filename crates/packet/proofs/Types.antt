@@ -1,4 +1,4 @@
--- The table of type bits and its inverse. Assumes nothing.
+-- The table of type bits and its inverse.
 use mathlib.Core.Path.{_≡_, refl}
 use Prim.Native.Nat.{ℕ, zero, suc, _<_}
 use native.Mathlib.Omega.{arith}

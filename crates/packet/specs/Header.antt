@@ -1,15 +1,16 @@
 -- A packet's header as far as it can be read without keys: RFC 9000, 17.2 and 17.3; Version Negotiation: RFC 8999, 6.
 use Prim.Native.Nat.{ℕ, _+_, _*_, _/_, _%_}
 use mathlib.Core.List.{List, [], _∷_}
-use mathlib.Core.Bool.{Bool, true, false, not, _&&_, _||_}
+use mathlib.Core.Bool.{Bool, false, not, _&&_, _||_}
 use mathlib.Core.Option.{Option, none, some}
 use lib.ListN.{length}
 use lib.Dec.{ltb, eqb}
-use Rattle.coding.specs.Words.{if_then_else_, andThen, Answer, no, ok}
+use Rattle.coding.specs.Words.{if_then_else_, andThen, Answer, no, ok, maxDatagram}
 use Rattle.coding.specs.Reading.{fixedAt, takeAt}
 use Rattle.coding.specs.Varint.{varAt}
 use Rattle.coding.specs.declared.Place.{Place}
-use Rattle.shared.specs.Cid.{cidOf, cidOn, longCidAt}
+use Rattle.shared.specs.FirstByte.{longHeaderForm, fixedBit, spinBit}
+use Rattle.shared.specs.Cid.{maxCid, cidOf, cidOn, longCidAt}
 use Rattle.shared.specs.declared.cid.ConnectionId.{ConnectionId}
 use Rattle.packet.specs.TypeBits.{PacketType, typeOf}
 use Rattle.packet.specs.TypeBits as type
@@ -33,16 +34,20 @@ pub record Outcome : Type 0 where
   pub end : ℕ
 
 -- a refusal that carries nothing
-unfoldable pub refuse : ℕ → Outcome
-refuse k = record { said = no k; dst = cidOf []; src = cidOf []; version = 0; end = 0 }
+unfoldable pub refusedHeader : ℕ → Outcome
+refusedHeader k = record { said = no k; dst = cidOf []; src = cidOf []; version = 0; end = 0 }
+
+-- the most versions that a reader may list
+abbrev pub maxVersions : ℕ
+maxVersions = 16
 
 -- an argument is outside its rule
 unfoldable pub outside : List ℕ → ℕ → List ℕ → Bool
-outside s local versions = ltb 65527 (length s) || ltb 20 local || ltb 16 (length versions)
+outside s local versions = ltb maxDatagram (length s) || ltb maxCid local || ltb maxVersions (length versions)
 
 -- the fixed bit is clear, and grease is off
 unfoldable pub unfixed : ℕ → Bool → Bool
-unfixed first grease = not grease && eqb (first / 64 % 2) 0
+unfixed first grease = not grease && eqb (first / fixedBit % 2) 0
 
 unfoldable pub listed : List ℕ → ℕ → Bool
 listed [] v = false
@@ -57,13 +62,13 @@ headed dst src version h end = record { said = ok h; dst = dst; src = src; versi
 -- 17.2.2: a token behind its length, and the Length
 unfoldable pub initialAt : (Header → ℕ → Outcome) → List ℕ → ℕ → Outcome
 initialAt made s at =
-    andThen (varAt s at) (refuse 1) (λ n start.
-    andThen (takeAt n s start) (refuse 5) (λ token next.
-    andThen (varAt s next) (refuse 1) (λ len end. made (initial token len) end)))
+    andThen (varAt s at) (refusedHeader 1) (λ n start.
+    andThen (takeAt n s start) (refusedHeader 5) (λ token next.
+    andThen (varAt s next) (refusedHeader 1) (λ len end. made (initial token len) end)))
 
 -- 17.2.3 and 17.2.4: the Length
 unfoldable pub lengthAt : (ℕ → Header) → (Header → ℕ → Outcome) → List ℕ → ℕ → Outcome
-lengthAt kind made s at = andThen (varAt s at) (refuse 1) (λ len end. made (kind len) end)
+lengthAt kind made s at = andThen (varAt s at) (refusedHeader 1) (λ len end. made (kind len) end)
 
 unfoldable pub tailAt : PacketType → (Header → ℕ → Outcome) → List ℕ → ℕ → Outcome
 tailAt type.initial made s at = initialAt made s at
@@ -81,32 +86,32 @@ bodyAt types steer rest s versions version dst src at =
 -- the version, and the two connection ids
 unfoldable pub longAt : (ℕ → PacketType) → ℕ → ℕ → List ℕ → List ℕ → Outcome
 longAt types steer rest s versions =
-    andThen (fixedAt 4 s 1) (refuse 1) (λ version n.
-    andThen (longCidAt s n) (refuse 3) (λ to m.
-    andThen (longCidAt s m) (refuse 3) (λ from at.
+    andThen (fixedAt 4 s 1) (refusedHeader 1) (λ version n.
+    andThen (longCidAt s n) (refusedHeader 3) (λ to m.
+    andThen (longCidAt s m) (refusedHeader 3) (λ from at.
     bodyAt types steer rest s versions version (cidOn s to) (cidOn s from) at)))
 
 -- ---- short headers: 17.3.1
 
 unfoldable pub shortAt : ℕ → List ℕ → ℕ → Outcome
 shortAt steer s local =
-    andThen (takeAt local s 1) (refuse 6) (λ to at.
+    andThen (takeAt local s 1) (refusedHeader 6) (λ to at.
     headed (cidOn s to) (cidOf []) 0 (short (eqb (steer % 2) 1)) at)
 
 -- ---- any header
 
 -- byte 0 is taken apart: the bits that steer are the form bit, the fixed bit and, in a long header, the type (first / 16),
--- in a short one the spin bit (first / 32); the rest of it goes to Version Negotiation alone
+-- in a short one the spin bit (first / spinBit); the rest of it goes to Version Negotiation alone
 unfoldable pub firstAt : (ℕ → PacketType) → ℕ → List ℕ → ℕ → List ℕ → Bool → Outcome
 firstAt types first s local versions grease =
-    if unfixed first grease then refuse 2 else
-    if ltb first 128 then shortAt (first / 32) s local else longAt types (first / 16) (first % 16) s versions
+    if unfixed first grease then refusedHeader 2 else
+    if ltb first longHeaderForm then shortAt (first / spinBit) s local else longAt types (first / 16) (first % 16) s versions
 
 -- the arguments come first, then byte 0
 unfoldable pub headerBy : (ℕ → PacketType) → List ℕ → ℕ → List ℕ → Bool → Outcome
 headerBy types s local versions grease =
-    if outside s local versions then refuse 14 else
-    andThen (fixedAt 1 s 0) (refuse 1) (λ first n. firstAt types first s local versions grease)
+    if outside s local versions then refusedHeader 14 else
+    andThen (fixedAt 1 s 0) (refusedHeader 1) (λ first n. firstAt types first s local versions grease)
 
 abbrev pub headerAt : List ℕ → ℕ → List ℕ → Bool → Outcome
 headerAt = headerBy typeOf

@@ -8,7 +8,7 @@ use Rattle.packet.specs.TypeBits.{PacketType}
 use Rattle.packet.specs.TypeBits as type
 use Rattle.packet.specs.Header.{Header, initial, zeroRtt, handshake, retry, short, negotiate, Outcome}
 use Rattle.packet.specs.Split.{Split}
-use Rattle.packet.specs.Walk.{Met, ended, packet, stopped, Step}
+use Rattle.packet.specs.Walk.{Met, atEnd, packet, refusedAt, PacketStep}
 use Rattle.packet.specs.declared.header.LongType.{LongType}
 use Rattle.packet.specs.declared.header.LongType.the-variants as ty
 use Rattle.packet.specs.declared.header.LongHeaderType.{LongHeaderType}
@@ -16,7 +16,6 @@ use Rattle.packet.specs.declared.header.LongHeaderType.the-variants as k
 use Rattle.packet.specs.declared.header.ProtectedHeader.{ProtectedHeader}
 use Rattle.packet.specs.declared.header.ProtectedHeader.the-variants as head
 use Rattle.packet.specs.declared.header.Decoded.{Decoded}
-use Rattle.packet.specs.declared.header.SpaceId.{SpaceId}
 use Rattle.packet.specs.declared.header.SpaceId.the-variants as id
 use Rattle.packet.specs.declared.header.Space.{Space}
 use Rattle.packet.specs.declared.header.Space.the-variants as space
@@ -69,9 +68,9 @@ unfoldable pub splitOf : PartialDecode → Split
 splitOf d = record { header = outcomeOf (d .«plain_header»); packet = d .packet; rest = restOf (d .rest) }
 
 unfoldable pub metOf : Found → Met
-metOf found.End = ended
+metOf found.End = atEnd
 metOf (found.Packet p) = packet (p .start) (p .len)
-metOf (found.Refused start) = stopped start
+metOf (found.Refused start) = refusedAt start
 
-unfoldable pub stepOf : Stepped → Step
-stepOf x = record { met = metOf (x .found); header = outcomeOf (x .«plain_header») }
+unfoldable pub packetStepOf : Stepped → PacketStep
+packetStepOf x = record { met = metOf (x .found); header = outcomeOf (x .«plain_header») }

@@ -8,7 +8,7 @@ use lib.Dec.{ltb}
 use Rattle.coding.specs.Words.{if_then_else_, andThen, Answer, no, ok}
 use Rattle.coding.specs.Reading.{takeAt}
 use Rattle.coding.specs.declared.Place.{Place}
-use Rattle.packet.specs.Header.{Header, initial, zeroRtt, handshake, retry, short, negotiate, Outcome, refuse, headerAt, lengthIn}
+use Rattle.packet.specs.Header.{Header, initial, zeroRtt, handshake, retry, short, negotiate, Outcome, refusedHeader, headerAt, lengthIn}
 
 -- the header of the first packet, the packet, and the rest
 pub record Split : Type 0 where
@@ -34,7 +34,7 @@ noPacket h = record { header = h; packet = nowhere; rest = none }
 -- with a Length, it ends so many bytes past its header, or is refused 7; without, it takes the whole datagram
 unfoldable pub splitBy : Option ℕ → List ℕ → Outcome → Split
 splitBy none s h = cutAt h s (length s)
-splitBy (some n) s h = andThen (takeAt n s (h .end)) (noPacket (refuse 7)) (λ payload end. cutAt h s end)
+splitBy (some n) s h = andThen (takeAt n s (h .end)) (noPacket (refusedHeader 7)) (λ payload end. cutAt h s end)
 
 unfoldable pub splitOn : Answer Header → List ℕ → Outcome → Split
 splitOn (no k) s h = noPacket h

@@ -14,6 +14,7 @@ pub use header::SpaceId;
 pub use partial::PartialDecode;
 pub use partial::Rest;
 pub use partial::split;
+pub use protected::MAX_VERSIONS;
 pub use protected::decode;
 pub use walk::Found;
 pub use walk::Stepped;

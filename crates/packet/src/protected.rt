@@ -11,17 +11,25 @@ use coding::U8Read;
 use coding::U32Read;
 use coding::VarRead;
 use shared::ConnectionId;
+use shared::FIXED_BIT;
+use shared::LONG_HEADER_FORM;
+use shared::MAX_CID_SIZE;
+use shared::SPIN_BIT;
 ghost use mathlib.Core.Path.{_≡_};
 ghost use Prim.Native.Nat.{_/_, _%_};
 ghost use Rattle.coding.specs.Refusals.{numberOf};
 ghost use Rattle.shared.specs.Cid.{cidOn};
+ghost use Rattle.shared.specs.FirstByte.{spinBit};
 ghost use Rattle.packet.specs.TypeBits.{typeOf};
-ghost use Rattle.packet.specs.Header.{refuse, outside, unfixed, listed, headed, initialAt, lengthAt, tailAt, bodyAt, longAt, shortAt, firstAt, headerAt};
+ghost use Rattle.packet.specs.Header.{refusedHeader, outside, unfixed, listed, headed, initialAt, lengthAt, tailAt, bodyAt, longAt, shortAt, firstAt, headerAt};
 ghost use Rattle.packet.specs.Said.{longOf, longTypeOf, outcomeOf};
+
+// The most versions that a reader may list.
+pub const MAX_VERSIONS: usize = 16;
 
 // A refusal that carries nothing.
 pub(crate) fn refused(why: Refusal) -> Decoded
-    ensures { λ r. ⌜ outcomeOf r ≡ refuse (numberOf why) ⌝ }
+    ensures { λ r. ⌜ outcomeOf r ≡ refusedHeader (numberOf why) ⌝ }
 {
     let dst = ConnectionId::empty();
     let src = ConnectionId::empty();
@@ -41,10 +49,10 @@ pub(crate) fn is_outside(s: &[u8], local: usize, versions: &[u32]) -> bool
     if MAX_DATAGRAM < s.len() {
         return true;
     }
-    if 20 < local {
+    if MAX_CID_SIZE < local {
         return true;
     }
-    16 < versions.len()
+    MAX_VERSIONS < versions.len()
 }
 
 // Whether the fixed bit is clear, and grease is off.
@@ -54,7 +62,7 @@ fn is_unfixed(first: u8, grease: bool) -> bool
     if grease {
         return false;
     }
-    first / 64 % 2 == 0
+    first / FIXED_BIT % 2 == 0
 }
 
 fn is_listed(versions: &[u32], version: u32) -> bool
@@ -152,7 +160,7 @@ fn long_body(
     ensures { λ r. ⌜ outcomeOf r ≡ bodyAt typeOf (first / 16) (first % 16) (now (s .entry)) (now (versions .entry)) version dst src at ⌝ }
 {
     if version == 0 {
-        let random = first % 128;
+        let random = first % LONG_HEADER_FORM;
         return Decoded {
             header: ProtectedHeader::VersionNegotiate { random },
             dst_cid: dst,
@@ -198,7 +206,7 @@ fn long_header(s: &[u8], first: u8, versions: &[u32]) -> Decoded
         return refused(Refusal::PacketEnd);
     };
     let PlaceRead::At(to, second) = shared::long_place(s, next) else {
-        return refused(Refusal::Cid);
+        return refused(Refusal::Cid); // for a cut length byte too
     };
     let PlaceRead::At(from, at) = shared::long_place(s, second) else {
         return refused(Refusal::Cid);
@@ -207,7 +215,7 @@ fn long_header(s: &[u8], first: u8, versions: &[u32]) -> Decoded
 }
 
 fn short_header(s: &[u8], first: u8, local: usize) -> Decoded
-    ensures { λ r. ⌜ outcomeOf r ≡ shortAt (first / 32) (now (s .entry)) local ⌝ }
+    ensures { λ r. ⌜ outcomeOf r ≡ shortAt (first / spinBit) (now (s .entry)) local ⌝ }
 {
     let PlaceRead::At(to, number_offset) = coding::take(s, 1, local as u64) else {
         return refused(Refusal::ShortCid);
@@ -216,7 +224,7 @@ fn short_header(s: &[u8], first: u8, local: usize) -> Decoded
     let src = ConnectionId::empty();
     Decoded {
         header: ProtectedHeader::Short {
-            spin: first / 32 % 2 == 1,
+            spin: first / SPIN_BIT % 2 == 1,
         },
         dst_cid: dst,
         src_cid: src,
@@ -232,7 +240,7 @@ fn any_header(s: &[u8], first: u8, local: usize, versions: &[u32], grease: bool)
     if is_unfixed(first, grease) {
         return refused(Refusal::FixedBit);
     }
-    if first < 128 {
+    if first < LONG_HEADER_FORM {
         return short_header(s, first, local);
     }
     long_header(s, first, versions)

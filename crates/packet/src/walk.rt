@@ -5,8 +5,8 @@ use crate::ProtectedHeader;
 use coding::Place;
 use coding::Refusal;
 ghost use mathlib.Core.Path.{_≡_};
-ghost use Rattle.packet.specs.Walk.{metOn, stopAt, stepOn, stepAt};
-ghost use Rattle.packet.specs.Said.{headerOf, splitOf, metOf, stepOf};
+ghost use Rattle.packet.specs.Walk.{metOn, stopAt, stepOn, packetStepAt};
+ghost use Rattle.packet.specs.Said.{headerOf, splitOf, metOf, packetStepOf};
 ghost use Rattle.coding.specs.Refusals.{numberOf};
 
 // What a step meets: the end of the datagram, a packet, or a refusal with its start.
@@ -23,7 +23,7 @@ pub struct Stepped {
 }
 
 fn stop_at(at: usize, why: Refusal) -> Stepped
-    ensures { λ r. ⌜ stepOf r ≡ stopAt at (numberOf why) ⌝ }
+    ensures { λ r. ⌜ packetStepOf r ≡ stopAt at (numberOf why) ⌝ }
 {
     Stepped {
         found: Found::Refused(at),
@@ -46,7 +46,7 @@ fn found_at(header: ProtectedHeader, at: usize, len: usize) -> Found
 }
 
 fn step_on(at: usize, part: PartialDecode) -> Stepped
-    ensures { λ r. ⌜ stepOf r ≡ stepOn at (splitOf part) ⌝ }
+    ensures { λ r. ⌜ packetStepOf r ≡ stepOn at (splitOf part) ⌝ }
 {
     let plain = part.plain_header;
     let header = plain.header;
@@ -59,7 +59,7 @@ fn step_on(at: usize, part: PartialDecode) -> Stepped
 
 // The packet at a place; the next step is at its end.
 pub fn step(s: &[u8], at: usize, local: usize, versions: &[u32], grease: bool) -> Stepped
-    ensures { λ r. ⌜ stepOf r ≡ stepAt (now (s .entry)) at local (now (versions .entry)) grease ⌝ }
+    ensures { λ r. ⌜ packetStepOf r ≡ packetStepAt (now (s .entry)) at local (now (versions .entry)) grease ⌝ }
 {
     if crate::protected::is_outside(s, local, versions) {
         return stop_at(at, Refusal::Argument);

@@ -187,18 +187,21 @@ fn one_line(text: &mut [u8], n: usize) -> usize {
     n
 }
 
-// The dump of a datagram, from byte 0 of text on.
-fn dump_in(s: &[u8], text: &mut [u8]) -> usize {
-    match dump_text::dump(s, text) {
-        Wrote::Len(n) => one_line(text, n),
-        Wrote::Refused(why) => line::say(text, 0, Answer::No(why)),
-    }
-}
-
+// The dump of a datagram into a part of out that has room for so many bytes.
 pub(crate) fn dump(rec: &[u8], out: &mut [u8], p: usize) -> usize {
+    let ns = record::numbers_of(rec);
     if out.len() < p {
         return p;
     }
-    let n = dump_in(record::bytes(rec, 0), &mut out[p..]);
-    past(out, p, n)
+    if ((out.len() - p) as u64) < ns.n0 {
+        return line::say(out, p, Answer::Bad);
+    }
+    let end = p + ns.n0 as usize;
+    match dump_text::dump(record::bytes(rec, 0), &mut out[p..end]) {
+        Wrote::Len(n) => {
+            let len = one_line(&mut out[p..end], n);
+            past(out, p, len)
+        }
+        Wrote::Refused(why) => line::say(out, p, Answer::No(why)),
+    }
 }

@@ -1,4 +1,4 @@
--- Laws of numbers in decimal and of bytes in hex. Assumes nothing.
+-- Laws of numbers in decimal and of bytes in hex.
 use mathlib.Core.Path.{_≡_, refl, ap, _∙_}
 use mathlib.Core.List.{List, [], _∷_, _++_}
 use mathlib.Core.Bool.{Bool, true, false}
@@ -70,9 +70,6 @@ length-below (suc (suc n)) x h k =
 
 pub length-u64 : (x : ℕ) → x < 2 ^ 64 → length (decimal x) ≤ 20
 length-u64 x h = length-below 20 x (omega arith) (omega arith)
-
-pub length-five : (x : ℕ) → x < 100000 → length (decimal x) ≤ 5
-length-five x h = length-below 5 x (omega arith) (omega arith)
 
 -- ---- the digits say the number, and none is a leading zero
 

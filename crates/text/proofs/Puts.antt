@@ -1,4 +1,4 @@
--- How a text's pieces are put one after the other. Assumes nothing.
+-- How a text's pieces are put one after the other.
 use mathlib.Core.Path.{_≡_, refl, sym, ap, _∙_}
 use mathlib.Core.List.{List, [], _∷_, _++_}
 use mathlib.Core.Bool.{Bool, true, false}

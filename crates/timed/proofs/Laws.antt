@@ -1,4 +1,4 @@
--- What a turn of each loop comes to, and what a writer's answer is as a record. Assumes nothing.
+-- What a turn of each loop comes to, and what a writer's answer is as a record.
 use Prim.Native.Nat.{ℕ, zero, suc, _+_, _-_, _≤_, _<_, _^_}
 use mathlib.Core.Path.{_≡_, refl, _∙_, ap}
 use mathlib.Core.List.{List, _∷_, map}
@@ -16,7 +16,7 @@ use Rattle.coding.specs.Writing.{Written}
 use Rattle.shared.specs.declared.kinds.CutNumber.{CutNumber}
 use Rattle.number.specs.Cutting.{windowOf, isCut}
 use Rattle.number.specs.Expanding.{nearestTo, expanded}
-use Rattle.timed.specs.Timed.{gatheredFrom, gathered, varsFrom, varsOf, written, flagged, Writes}
+use Rattle.timed.specs.Timed.{gatheredFrom, gathered, varsFrom, varsOf, writeRecord, flagged, Writes}
 use Rattle.timed.specs.declared.WriteAnswer.{WriteAnswer}
 
 -- ---- integers one after the other: as many turns are over as integers are counted
@@ -82,8 +82,8 @@ only-14 c e k = go (isCut c) (ltb (2 ^ 62) e)
 
 -- a writer's answer, and its record
 pub so : {w : Answer (List ℕ)} {old : List ℕ} {said : Answer ℕ} {new : List ℕ} {r : WriteAnswer}
-    → Written w old said new → r ≡ written said → Writes w old r new
-so f q = record { says = q ∙ ap written (f .says); leaves = f .leaves }
+    → Written w old said new → r ≡ writeRecord said → Writes w old r new
+so f q = record { says = q ∙ ap writeRecord (f .says); leaves = f .leaves }
 
 module _ (flag : ℕ) (w : Answer (List ℕ)) where
   pub flag-no : 1 < flag → flagged flag w ≡ no 14

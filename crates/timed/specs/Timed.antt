@@ -49,9 +49,9 @@ fullsOf k expected vs = map (λ v. expanded (cut k v) expected) vs
 
 -- ---- writers
 
-unfoldable pub written : Answer ℕ → WriteAnswer
-written (no k) = record { refusal = k; len = 0 }
-written (ok n) = record { refusal = 0; len = n }
+unfoldable pub writeRecord : Answer ℕ → WriteAnswer
+writeRecord (no k) = record { refusal = k; len = 0 }
+writeRecord (ok n) = record { refusal = 0; len = n }
 
 -- a flag is 0 or 1, else 14
 unfoldable pub flagged : ℕ → Answer (List ℕ) → Answer (List ℕ)
@@ -59,5 +59,5 @@ flagged flag w = if ltb 1 flag then no 14 else w
 
 -- a writer of w into the buffer `old` answers r and leaves `new`
 pub record Writes (w : Answer (List ℕ)) (old : List ℕ) (r : WriteAnswer) (new : List ℕ) : Type 0 where
-  pub says : r ≡ written (lengthOf (inRoom (length old) w))
+  pub says : r ≡ writeRecord (lengthOf (inRoom (length old) w))
   pub leaves : new ≡ intoBuffer (inRoom (length old) w) old

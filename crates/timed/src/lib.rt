@@ -17,15 +17,15 @@ use shared::FullNumber;
 use shared::StreamId;
 ghost use mathlib.Core.Path.{_≡_};
 ghost use mathlib.Core.Option.{none};
-ghost use lib.ListN.{length};
 ghost use lib.Dec.{eqb};
+ghost use Rattle.coding.specs.Words.{ok};
 ghost use Rattle.coding.specs.Said.{wroteOf};
 ghost use Rattle.row_out.specs.Writing.{number};
 ghost use Rattle.frame_out.specs.Frames.{metaOut, cryptoOut, resetStreamOut, newCidOut};
 ghost use Rattle.frame_out.specs.Closes.{connection, closeOut};
 ghost use Rattle.ack_out.specs.Acks.{ackOut};
-ghost use Rattle.dump_text.specs.Dump.{dumpOut};
-ghost use Rattle.timed.specs.Timed.{gathered, varsOf, cutsOf, fullsOf, written, flagged, Writes};
+ghost use Rattle.dump_text.specs.Dump.{dumpText};
+ghost use Rattle.timed.specs.Timed.{gathered, varsOf, cutsOf, fullsOf, writeRecord, flagged, Writes};
 
 // What came before the end or a refusal: how many, and the exclusive or of all.
 #[repr(C)]
@@ -129,7 +129,7 @@ pub extern "C" fn guobbarel_timed_expand(
 
 // A writer's answer as a record.
 fn written(w: Wrote) -> WriteAnswer
-    ensures { λ r. ⌜ r ≡ written (wroteOf w) ⌝ }
+    ensures { λ r. ⌜ r ≡ writeRecord (wroteOf w) ⌝ }
 {
     match w {
         Wrote::Len(len) => WriteAnswer { refusal: 0, len },
@@ -235,7 +235,7 @@ pub extern "C" fn guobbarel_timed_ack(delay: u64, ranges: &[u64], out: &mut [u8]
 
 #[no_mangle]
 pub extern "C" fn guobbarel_timed_dump(datagram: &[u8], out: &mut [u8]) -> WriteAnswer
-    ensures { λ r. ⌜ Writes (dumpOut (now (datagram .entry)) (length (now (out .entry)))) (now (out .entry)) r (now (out .exit)) ⌝ }
+    ensures { λ r. ⌜ Writes (ok (dumpText (now (datagram .entry)))) (now (out .entry)) r (now (out .exit)) ⌝ }
 {
     written(dump_text::dump(datagram, out))
 }

@@ -48,7 +48,7 @@ pub const OPS: [Op; 43] = [
     op(32, "split", "nnvb", packet::probe::split),
     op(33, "walk", "nnvb", packet::probe::walk),
     op(34, "finish", "knbb", packet::probe::finish),
-    op(35, "dump", "b", packet::probe::dump),
+    op(35, "dump", "nb", packet::probe::dump),
     op(36, "henc", "Kb", packet::probe::henc),
     op(37, "hlen", "nnnnb", packet::probe::hlen),
     op(38, "whole", "Kbbb", packet::probe::whole),

@@ -1,13 +1,8 @@
-use Rattle.dump_text.specs.Dump.{word}
-use Rattle.dump_text.specs.Dump.{endLine}
+use Rattle.dump_text.specs.Dump.{numberThen, totalLine}
 use Rattle.dump_text.proofs.Puts.{room-after, two}
 use borrow.Author.Needs.{needs}
 use Rattle.dump_text.proofs.put_end.Statement.{statement}
 use Rattle.dump_text.proofs.put_end.Tie as tie
-use Rattle.dump_text.proofs.put_end.Reads as reads
-use Rattle.dump_text.proofs.put_end.Lts as lts
-use Rattle.coding.proofs.put_slice.Reads as put-slice-reads
-use Rattle.dump_text.proofs.put_word.Reads as put-word-reads
 
 slice-aggregate-put-slice : tie.Need-slice-aggregate-put-slice
 slice-aggregate-put-slice c = search needs
@@ -16,14 +11,14 @@ put-slice-requires : tie.Need-put-slice-requires
 put-slice-requires c κs = search needs
 
 put-word-requires : tie.Need-put-word-requires
-unfolding endLine
-put-word-requires c κs = room-after _ (word (c .before .before .before .before .before .before .before .args .total) 0x0a) (c .before .before .before .before .before .before .before .pre) (c .before .before .before .put-slice .ensures)
+unfolding totalLine
+put-word-requires c κs = room-after _ (numberThen (c .before .before .before .before .before .before .before .args .total) 0x0a) (c .before .before .before .before .before .before .before .pre) (c .before .before .before .put-slice .ensures)
 
 same-length : tie.Need-same-length
 same-length c = search needs
 
 returns : tie.Need-returns
-unfolding endLine
+unfolding totalLine
 returns c = two _ _ (c .before .before .before .before .before .before .before .before .before .before .pre) (c .before .before .before .before .before .before .put-slice .ensures) (c .before .before .put-word .ensures)
 
 pub put-end-spec : {M : Type 1} → statement M

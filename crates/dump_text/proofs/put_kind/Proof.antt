@@ -4,9 +4,6 @@ use Rattle.coding.proofs.Writes.{put-none}
 use borrow.Author.Needs.{needs}
 use Rattle.dump_text.proofs.put_kind.Statement.{statement}
 use Rattle.dump_text.proofs.put_kind.Tie as tie
-use Rattle.dump_text.proofs.put_kind.Reads as reads
-use Rattle.dump_text.proofs.put_kind.Lts as lts
-use Rattle.coding.proofs.put_slice.Reads as put-slice-reads
 
 enum-told : tie.Need-enum-told
 enum-told c = search needs

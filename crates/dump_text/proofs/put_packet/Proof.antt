@@ -1,28 +1,22 @@
-use mathlib.Core.List.{List, [], _∷_, _++_}
+use mathlib.Core.List.{List, _++_}
 use Prim.Native.Nat.{ℕ}
 use lib.ListN.{length}
 use denote.Ref.{now}
-use Rattle.dump_text.specs.Dump.{word, kindWord}
-use Rattle.packet.specs.Said.{headerOf}
-use Rattle.dump_text.specs.Dump.{packetLine}
-use Rattle.packet.specs.Said.{outcomeOf}
+use Rattle.dump_text.specs.Dump.{numberThen, kindWord, packetLine}
+use Rattle.packet.specs.Said.{headerOf, outcomeOf}
 use Rattle.dump_text.proofs.Puts.{shorter, room-after, two}
 use borrow.Author.Needs.{needs}
 use Rattle.dump_text.proofs.put_packet.Statement.{statement}
 use Rattle.dump_text.proofs.put_packet.Tie as tie
-use Rattle.dump_text.proofs.put_packet.Reads as reads
-use Rattle.dump_text.proofs.put_packet.Lts as lts
-use Rattle.dump_text.proofs.put_kind.Reads as put-kind-reads
-use Rattle.dump_text.proofs.put_word.Reads as put-word-reads
 
 put-word-requires : tie.Need-put-word-requires
 unfolding packetLine outcomeOf
 put-word-requires c κs =
     let a = c .before .before .args in
-    let w1 : List ℕ = word (a .place .start) 0x20 in
-    let w2 : List ℕ = word (a .place .len) 0x20 in
+    let w1 : List ℕ = numberThen (a .place .start) 0x20 in
+    let w2 : List ℕ = numberThen (a .place .len) 0x20 in
     let k : List ℕ = kindWord (headerOf (a .plain .header)) in
-    let w3 : List ℕ = word (a .plain .«number_offset») 0x0a in
+    let w3 : List ℕ = numberThen (a .plain .«number_offset») 0x0a in
     let m : ℕ = length (now (a .buf)) in
     let r3 = shorter (w1 ++ w2 ++ k) w3 (a .at) m (c .before .before .pre) in
     let r2 = shorter (w1 ++ w2) k (a .at) m r3 in
@@ -32,10 +26,10 @@ put-word-requires-2 : tie.Need-put-word-requires-2
 unfolding packetLine outcomeOf
 put-word-requires-2 c κs =
     let a = c .before .before .before .before .before .before .args in
-    let w1 : List ℕ = word (a .place .start) 0x20 in
-    let w2 : List ℕ = word (a .place .len) 0x20 in
+    let w1 : List ℕ = numberThen (a .place .start) 0x20 in
+    let w2 : List ℕ = numberThen (a .place .len) 0x20 in
     let k : List ℕ = kindWord (headerOf (a .plain .header)) in
-    let w3 : List ℕ = word (a .plain .«number_offset») 0x0a in
+    let w3 : List ℕ = numberThen (a .plain .«number_offset») 0x0a in
     let m : ℕ = length (now (a .buf)) in
     let r3 = shorter (w1 ++ w2 ++ k) w3 (a .at) m (c .before .before .before .before .before .before .pre) in
     let r2 = shorter (w1 ++ w2) k (a .at) m r3 in
@@ -48,10 +42,10 @@ put-word-requires-3 : tie.Need-put-word-requires-3
 unfolding packetLine outcomeOf
 put-word-requires-3 c κs =
     let a = c .before .before .before .before .before .before .before .before .before .before .before .before .before .before .args in
-    let w1 : List ℕ = word (a .place .start) 0x20 in
-    let w2 : List ℕ = word (a .place .len) 0x20 in
+    let w1 : List ℕ = numberThen (a .place .start) 0x20 in
+    let w2 : List ℕ = numberThen (a .place .len) 0x20 in
     let k : List ℕ = kindWord (headerOf (a .plain .header)) in
-    let w3 : List ℕ = word (a .plain .«number_offset») 0x0a in
+    let w3 : List ℕ = numberThen (a .plain .«number_offset») 0x0a in
     let m : ℕ = length (now (a .buf)) in
     let r3 = shorter (w1 ++ w2 ++ k) w3 (a .at) m (c .before .before .before .before .before .before .before .before .before .before .before .before .before .before .pre) in
     let r2 = shorter (w1 ++ w2) k (a .at) m r3 in
@@ -64,10 +58,10 @@ returns : tie.Need-returns
 unfolding packetLine outcomeOf
 returns c =
     let a = c .before .before .before .before .before .before .before .before .before .before .before .before .before .before .before .before .before .args in
-    let w1 : List ℕ = word (a .place .start) 0x20 in
-    let w2 : List ℕ = word (a .place .len) 0x20 in
+    let w1 : List ℕ = numberThen (a .place .start) 0x20 in
+    let w2 : List ℕ = numberThen (a .place .len) 0x20 in
     let k : List ℕ = kindWord (headerOf (a .plain .header)) in
-    let w3 : List ℕ = word (a .plain .«number_offset») 0x0a in
+    let w3 : List ℕ = numberThen (a .plain .«number_offset») 0x0a in
     let m : ℕ = length (now (a .buf)) in
     let r3 = shorter (w1 ++ w2 ++ k) w3 (a .at) m (c .before .before .before .before .before .before .before .before .before .before .before .before .before .before .before .before .before .pre) in
     let r2 = shorter (w1 ++ w2) k (a .at) m r3 in

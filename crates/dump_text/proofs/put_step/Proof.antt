@@ -1,26 +1,15 @@
 use native.Mathlib.Omega.{arith}
-use mathlib.Core.Path.{_≡_, sym, ap, _∙_}
 use mathlib.Core.List.{[], _∷_}
 use mathlib.Core.Bool.{false}
 use Prim.Native.Nat.{ℕ}
 use lib.ListN.{length}
 use denote.Ref.{now}
-use Rattle.packet.specs.Walk.{Step, packet}
-use Rattle.packet.specs.Said.{metOf, stepOf}
-use Rattle.packet.specs.declared.walk.Stepped.{Stepped}
-use Rattle.packet.proofs.Walks.{step-meets}
-use Rattle.dump_text.specs.Turns.{stepHere, lineAt, nextIn, placeIn}
+use Rattle.packet.proofs.Walks.{step-inside}
+use Rattle.dump_text.specs.Turns.{stepHere, lineAt, nextIn, textPlace}
 use Rattle.dump_text.proofs.Texts.{found-end, found-packet, found-refused, found-met}
 use borrow.Author.Needs.{needs}
 use Rattle.dump_text.proofs.put_step.Statement.{statement}
 use Rattle.dump_text.proofs.put_step.Tie as tie
-use Rattle.dump_text.proofs.put_step.Reads as reads
-use Rattle.dump_text.proofs.put_step.Lts as lts
-use Rattle.dump_text.proofs.put_end.Reads as put-end-reads
-use Rattle.dump_text.proofs.put_packet.Reads as put-packet-reads
-use Rattle.dump_text.proofs.put_refused.Reads as put-refused-reads
-use Rattle.dump_text.proofs.refusal_in.Reads as refusal-in-reads
-use Rattle.packet.proofs.step.Reads as step-reads
 
 slice-aggregate-step : tie.Need-slice-aggregate-step
 slice-aggregate-step c = search needs
@@ -50,7 +39,7 @@ add-next c =
     let y = stepHere (now (a .s)) (a .at) in
     let n : ℕ = length (now (a .s)) in
     let p = c .before .before .found .given .0 .0 in
-    let m = step-meets (now (a .s)) 0 (1 ∷ []) false (a .at) (p .start) (p .len) (found-met (x .result) y (x .ensures) p (c .before .before .found .given .1)) in
+    let m = step-inside (now (a .s)) 0 (1 ∷ []) false (a .at) (p .start) (p .len) (found-met (x .result) y (x .ensures) p (c .before .before .found .given .1)) in
     omega arith
 
 put-packet-requires : tie.Need-put-packet-requires
@@ -81,7 +70,7 @@ same-length : tie.Need-same-length
 same-length c = search needs
 
 returns : tie.Need-returns
-unfolding lineAt nextIn placeIn
+unfolding lineAt nextIn textPlace
 returns c =
     let a = c .before .before .before .before .before .before .before .before .before .before .before .args in
     let x = c .before .before .before .before .before .before .before .step in
@@ -94,7 +83,7 @@ same-length-2 : tie.Need-same-length-2
 same-length-2 c = search needs
 
 returns-2 : tie.Need-returns-2
-unfolding lineAt nextIn placeIn
+unfolding lineAt nextIn textPlace
 returns-2 c =
     let a = c .before .before .before .before .before .before .before .before .before .before .before .before .before .args in
     let x = c .before .before .before .before .before .before .before .before .before .step in
@@ -107,7 +96,7 @@ same-length-3 : tie.Need-same-length-3
 same-length-3 c = search needs
 
 returns-3 : tie.Need-returns-3
-unfolding lineAt nextIn placeIn
+unfolding lineAt nextIn textPlace
 returns-3 c =
     let a = c .before .before .before .before .before .before .before .before .before .before .before .before .before .args in
     let x = c .before .before .before .before .before .before .before .before .before .step in

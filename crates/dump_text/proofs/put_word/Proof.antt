@@ -1,14 +1,10 @@
 use native.Mathlib.Omega.{arith}
 use Rattle.shared.proofs.Laws.{one-byte}
-use Rattle.dump_text.specs.Dump.{word}
+use Rattle.dump_text.specs.Dump.{numberThen}
 use Rattle.dump_text.proofs.Puts.{two}
 use borrow.Author.Needs.{needs}
 use Rattle.dump_text.proofs.put_word.Statement.{statement}
 use Rattle.dump_text.proofs.put_word.Tie as tie
-use Rattle.dump_text.proofs.put_word.Reads as reads
-use Rattle.dump_text.proofs.put_word.Lts as lts
-use Rattle.coding.proofs.put_u8.Reads as put-u8-reads
-use Rattle.text.proofs.put_decimal.Reads as put-decimal-reads
 
 put-decimal-requires : tie.Need-put-decimal-requires
 put-decimal-requires c κs = search needs
@@ -20,7 +16,7 @@ same-length : tie.Need-same-length
 same-length c = search needs
 
 returns : tie.Need-returns
-unfolding word
+unfolding numberThen
 returns c =
     let a = c .before .before .before .before .before .before .before .before .before .args in
     two _ _ (c .before .before .before .before .before .before .before .before .before .pre) (c .before .before .before .before .before .before .put-decimal .ensures) (rw (one-byte (a .after) (omega arith)) at (c .before .before .put-u8 .ensures))

@@ -1,12 +1,8 @@
-use mathlib.Core.Path.{_≡_, refl, sym, _∙_}
 use Rattle.dump_text.specs.Dump.{refusalIn}
 use Rattle.packet.specs.Said.{headerOf}
 use borrow.Author.Needs.{needs}
 use Rattle.dump_text.proofs.refusal_in.Statement.{statement}
 use Rattle.dump_text.proofs.refusal_in.Tie as tie
-use Rattle.dump_text.proofs.refusal_in.Reads as reads
-use Rattle.dump_text.proofs.refusal_in.Lts as lts
-use Rattle.coding.proofs.refusal.Refusal.number.Reads as number-reads
 
 enum-told : tie.Need-enum-told
 enum-told c = search needs

@@ -1,5 +1,5 @@
 use Rattle.coding.specs.Said.{wroteOf}
-use Rattle.timed.specs.Timed.{written}
+use Rattle.timed.specs.Timed.{writeRecord}
 use borrow.Author.Needs.{needs}
 use Rattle.timed.proofs.written.Statement.{statement}
 use Rattle.timed.proofs.written.Tie as tie
@@ -14,11 +14,11 @@ number-requires : tie.Need-number-requires
 number-requires c κs = search needs
 
 returns : tie.Need-returns
-unfolding written wroteOf
+unfolding writeRecord wroteOf
 returns c = rw (c .before .w .given .1)
 
 returns-2 : tie.Need-returns-2
-unfolding written wroteOf
+unfolding writeRecord wroteOf
 returns-2 c = rw (c .before .before .w2 .given .1, c .number .ensures)
 
 pub written-spec : {M : Type 1} → statement M

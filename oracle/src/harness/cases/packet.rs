@@ -155,13 +155,31 @@ fn read(r: &mut Rng) -> String {
     format!("{} {}", reader.words(), hex(&datagram))
 }
 
-/// A datagram for the dump's reader; rarely the smallest packets, as many as a datagram can have.
+/// A datagram for the dump's reader, rarely the smallest packets, as many as a datagram can have; and a buffer, often about as long
+/// as the text.
 fn dump(r: &mut Rng) -> String {
-    if r.one_in(3_000) {
+    let datagram = if r.one_in(3_000) {
         let n = r.near(MOST);
-        return hex(&smallest_up_to(n));
-    }
-    hex(&datagram(r, &Reader { local: 0, grease: false, versions: vec![1] }))
+        smallest_up_to(n)
+    } else {
+        datagram(r, &Reader { local: 0, grease: false, versions: vec![1] })
+    };
+    let room = match r.below(8) {
+        0..3 => r.near(text_len(&datagram)),
+        3 => r.below(text_len(&datagram) as u64) as usize,
+        _ => ROOM,
+    };
+    format!("{room} {}", hex(&datagram))
+}
+
+/// Room for the text of every datagram.
+const ROOM: usize = 4 * MOST + 64;
+
+/// How long the dump's text is.
+fn text_len(datagram: &[u8]) -> usize {
+    let mut answer = String::new();
+    ask::answer(&format!("dump {ROOM} {}", hex(datagram)), &mut answer);
+    answer.find(" #").unwrap_or(answer.len())
 }
 
 /// The first packet of a datagram, with the kind and the offset that the Rust reads in it; none where it refuses it.
@@ -221,7 +239,10 @@ fn each_read(emit: &mut dyn FnMut(String), reader: &str, datagram: &[u8]) {
         emit(format!("{op} {reader} {}", hex(datagram)));
     }
     if reader == DUMP {
-        emit(format!("dump {}", hex(datagram)));
+        let len = text_len(datagram);
+        for room in [ROOM, len, len - 1] {
+            emit(format!("dump {room} {}", hex(datagram)));
+        }
     }
     if let Some((kind, offset, packet)) = split_off(reader, datagram) {
         emit(format!("finish {kind} {offset} {MASK} {}", hex(&packet)));
@@ -266,7 +287,7 @@ fn first_bytes(emit: &mut dyn FnMut(String)) {
                 ["0 0 1", "0 1 1"].iter().for_each(|reader| each_read(emit, reader, &b));
                 let second = hex(&[smallest(), b].concat());
                 emit(format!("walk {DUMP} {second}"));
-                emit(format!("dump {second}"));
+                emit(format!("dump {ROOM} {second}"));
             }
         }
     }

@@ -158,10 +158,15 @@ pub(crate) fn walk(a: &mut Args, out: &mut String) -> Result<(), Bad> {
     Ok(())
 }
 
-/// dump B -> for each packet START LENGTH KIND OFFSET; then end TOTAL; | refused START N; where `;` is a line feed
+/// dump ROOM B -> for each packet START LENGTH KIND OFFSET; then end TOTAL; | refused START N; where `;` is a line feed | no 15
 pub(crate) fn dump(a: &mut Args, out: &mut String) -> Result<(), Bad> {
-    let (reader, datagram) = (Reader { local: 0, grease: false, versions: vec![1] }, a.bytes()?);
-    settle(out, reader.outside(&datagram, "refused 0 14;"), || walked(&reader, &datagram).replace("; ", ";") + ";");
+    let (room, reader, datagram) = (a.num()?, Reader { local: 0, grease: false, versions: vec![1] }, a.bytes()?);
+    let mut text = String::new();
+    settle(&mut text, reader.outside(&datagram, "refused 0 14;"), || {
+        walked(&reader, &datagram).replace("; ", ";") + ";"
+    });
+    let len = text.find(" #").unwrap_or(text.len());
+    out.push_str(if len as u64 <= room { &text } else { "no 15" });
     Ok(())
 }
 

@@ -1,4 +1,4 @@
-use Rattle.packet.specs.Said.{metOf, stepOf}
+use Rattle.packet.specs.Said.{metOf, packetStepOf}
 use borrow.Author.Needs.{needs}
 use Rattle.gateway.proofs.packets.step_record.Statement.{statement}
 use Rattle.gateway.proofs.packets.step_record.Tie as tie
@@ -22,15 +22,15 @@ header-record-requires-2 : tie.Need-header-record-requires-2
 header-record-requires-2 c κs = search needs
 
 returns : tie.Need-returns
-unfolding stepOf metOf
+unfolding packetStepOf metOf
 returns c = rw (c .before .enum-told .given .1, c .no-packet .ensures)
 
 returns-2 : tie.Need-returns-2
-unfolding stepOf metOf
+unfolding packetStepOf metOf
 returns-2 c = rw (c .before .before .found .given .1, c .header-record .ensures)
 
 returns-3 : tie.Need-returns-3
-unfolding stepOf metOf
+unfolding packetStepOf metOf
 returns-3 c = rw (c .before .before .found2 .given .1, c .header-record2 .ensures)
 
 pub step-record-spec : {M : Type 1} → statement M

@@ -5,12 +5,6 @@ use Rattle.packet.specs.Split.{noPacket, splitBy}
 use borrow.Author.Needs.{needs}
 use Rattle.packet.proofs.partial.by_length.Statement.{statement}
 use Rattle.packet.proofs.partial.by_length.Tie as tie
-use Rattle.packet.proofs.partial.by_length.Reads as reads
-use Rattle.packet.proofs.partial.by_length.Lts as lts
-use Rattle.coding.proofs.take.Reads as take-reads
-use Rattle.packet.proofs.partial.cut_at.Reads as cut-at-reads
-use Rattle.packet.proofs.partial.no_packet.Reads as no-packet-reads
-use Rattle.packet.proofs.protected.refused.Reads as refused-reads
 
 take-requires : tie.Need-take-requires
 take-requires c κs = search needs

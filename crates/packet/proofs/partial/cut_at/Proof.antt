@@ -3,9 +3,6 @@ use Rattle.packet.specs.Split.{cutAt}
 use borrow.Author.Needs.{needs}
 use Rattle.packet.proofs.partial.cut_at.Statement.{statement}
 use Rattle.packet.proofs.partial.cut_at.Tie as tie
-use Rattle.packet.proofs.partial.cut_at.Reads as reads
-use Rattle.packet.proofs.partial.cut_at.Lts as lts
-use Rattle.packet.proofs.partial.rest_at.Reads as rest-at-reads
 
 rest-at-requires : tie.Need-rest-at-requires
 rest-at-requires c κs = search needs

@@ -3,8 +3,6 @@ use Rattle.packet.specs.Said.{restOf, splitOf}
 use mathlib.Core.Path.{refl}
 use Rattle.packet.proofs.partial.no_packet.Statement.{statement}
 use Rattle.packet.proofs.partial.no_packet.Tie as tie
-use Rattle.packet.proofs.partial.no_packet.Reads as reads
-use Rattle.packet.proofs.partial.no_packet.Lts as lts
 
 returns : tie.Need-returns
 unfolding splitOf restOf noPacket

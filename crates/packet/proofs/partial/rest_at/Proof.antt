@@ -4,8 +4,6 @@ use Rattle.packet.specs.Said.{restOf}
 use borrow.Author.Needs.{needs}
 use Rattle.packet.proofs.partial.rest_at.Statement.{statement}
 use Rattle.packet.proofs.partial.rest_at.Tie as tie
-use Rattle.packet.proofs.partial.rest_at.Reads as reads
-use Rattle.packet.proofs.partial.rest_at.Lts as lts
 
 sub-t6 : tie.Need-sub-t6
 sub-t6 c = search needs

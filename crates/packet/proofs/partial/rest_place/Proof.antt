@@ -3,8 +3,6 @@ use Rattle.packet.specs.Split.{restIn}
 use borrow.Author.Needs.{needs}
 use Rattle.packet.proofs.partial.rest_place.Statement.{statement}
 use Rattle.packet.proofs.partial.rest_place.Tie as tie
-use Rattle.packet.proofs.partial.rest_place.Reads as reads
-use Rattle.packet.proofs.partial.rest_place.Lts as lts
 
 enum-known-rest : tie.Need-enum-known-rest
 enum-known-rest c = search needs

@@ -7,12 +7,6 @@ use Rattle.packet.proofs.Cases.{split-no, split-all, split-some, long-l
 use borrow.Author.Needs.{needs}
 use Rattle.packet.proofs.partial.split.Statement.{statement}
 use Rattle.packet.proofs.partial.split.Tie as tie
-use Rattle.packet.proofs.partial.split.Reads as reads
-use Rattle.packet.proofs.partial.split.Lts as lts
-use Rattle.packet.proofs.partial.by_length.Reads as by-length-reads
-use Rattle.packet.proofs.partial.cut_at.Reads as cut-at-reads
-use Rattle.packet.proofs.partial.no_packet.Reads as no-packet-reads
-use Rattle.packet.proofs.protected.decode.Reads as decode-reads
 
 decode-requires : tie.Need-decode-requires
 decode-requires c κs = search needs

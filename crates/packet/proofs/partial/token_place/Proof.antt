@@ -5,8 +5,6 @@ use Rattle.packet.proofs.Cases.{long-no-token}
 use borrow.Author.Needs.{needs}
 use Rattle.packet.proofs.partial.token_place.Statement.{statement}
 use Rattle.packet.proofs.partial.token_place.Tie as tie
-use Rattle.packet.proofs.partial.token_place.Reads as reads
-use Rattle.packet.proofs.partial.token_place.Lts as lts
 
 enum-known-header : tie.Need-enum-known-header
 enum-known-header c = search needs

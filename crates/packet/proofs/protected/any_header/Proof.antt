@@ -4,12 +4,6 @@ use Rattle.packet.proofs.Cases.{made-tests}
 use borrow.Author.Needs.{needs}
 use Rattle.packet.proofs.protected.any_header.Statement.{statement}
 use Rattle.packet.proofs.protected.any_header.Tie as tie
-use Rattle.packet.proofs.protected.any_header.Reads as reads
-use Rattle.packet.proofs.protected.any_header.Lts as lts
-use Rattle.packet.proofs.protected.is_unfixed.Reads as is-unfixed-reads
-use Rattle.packet.proofs.protected.long_header.Reads as long-header-reads
-use Rattle.packet.proofs.protected.refused.Reads as refused-reads
-use Rattle.packet.proofs.protected.short_header.Reads as short-header-reads
 
 is-unfixed-requires : tie.Need-is-unfixed-requires
 is-unfixed-requires c κs = search needs

@@ -4,12 +4,6 @@ use Rattle.packet.proofs.Cases.{made-tests}
 use borrow.Author.Needs.{needs}
 use Rattle.packet.proofs.protected.decode.Statement.{statement}
 use Rattle.packet.proofs.protected.decode.Tie as tie
-use Rattle.packet.proofs.protected.decode.Reads as reads
-use Rattle.packet.proofs.protected.decode.Lts as lts
-use Rattle.coding.proofs.get_u8.Reads as get-u8-reads
-use Rattle.packet.proofs.protected.any_header.Reads as any-header-reads
-use Rattle.packet.proofs.protected.is_outside.Reads as is-outside-reads
-use Rattle.packet.proofs.protected.refused.Reads as refused-reads
 
 is-outside-requires : tie.Need-is-outside-requires
 is-outside-requires c κs = search needs

@@ -1,4 +1,4 @@
-use Prim.Native.Nat.{_+_, _-_, _≤_}
+use Prim.Native.Nat.{_-_, _≤_}
 use mathlib.Core.Path.{_≡_, refl, sym, _∙_}
 use native.Mathlib.Omega.{arith}
 use borrow.Author.Needs.{needs}
@@ -7,8 +7,6 @@ use Rattle.packet.specs.Header.{listed}
 use Rattle.packet.proofs.Cases.{listed-hit, listed-miss, listed-none}
 use Rattle.packet.proofs.protected.is_listed.Statement.{statement}
 use Rattle.packet.proofs.protected.is_listed.Tie as tie
-use Rattle.packet.proofs.protected.is_listed.Reads as reads
-use Rattle.packet.proofs.protected.is_listed.Lts as lts
 
 abbrev Inv-loop : tie.InvT-loop
 Inv-loop versions version i₀ i = (i ≤ length versions) × (listed versions version ≡ listed (drop i versions) version)

@@ -2,8 +2,6 @@ use borrow.Author.Tests.{lt-ltb, le-ltb}
 use Rattle.packet.specs.Header.{outside}
 use Rattle.packet.proofs.protected.is_outside.Statement.{statement}
 use Rattle.packet.proofs.protected.is_outside.Tie as tie
-use Rattle.packet.proofs.protected.is_outside.Reads as reads
-use Rattle.packet.proofs.protected.is_outside.Lts as lts
 
 returns : tie.Need-returns
 unfolding outside

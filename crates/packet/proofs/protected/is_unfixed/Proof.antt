@@ -1,8 +1,6 @@
 use Rattle.packet.specs.Header.{unfixed}
 use Rattle.packet.proofs.protected.is_unfixed.Statement.{statement}
 use Rattle.packet.proofs.protected.is_unfixed.Tie as tie
-use Rattle.packet.proofs.protected.is_unfixed.Reads as reads
-use Rattle.packet.proofs.protected.is_unfixed.Lts as lts
 
 returns : tie.Need-returns
 unfolding unfixed

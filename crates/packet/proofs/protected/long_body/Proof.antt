@@ -1,25 +1,14 @@
-use native.Mathlib.Omega.{arith}
-use mathlib.Core.Path.{_≡_}
-use Prim.Native.Nat.{_+_, _*_, _/_, _%_}
 use Rattle.coding.proofs.Rules.{choices}
 use Rattle.packet.specs.Header.{bodyAt, headed}
 use Rattle.packet.specs.Said.{headerOf, outcomeOf}
-use Rattle.packet.proofs.Cases.{made-tests}
+use Rattle.packet.proofs.Cases.{low-seven, made-tests}
 use borrow.Author.Needs.{needs}
 use Rattle.packet.proofs.protected.long_body.Statement.{statement}
 use Rattle.packet.proofs.protected.long_body.Tie as tie
-use Rattle.packet.proofs.protected.long_body.Reads as reads
-use Rattle.packet.proofs.protected.long_body.Lts as lts
-use Rattle.packet.proofs.header.LongHeaderType.from_byte.Reads as from-byte-reads
-use Rattle.packet.proofs.protected.is_listed.Reads as is-listed-reads
-use Rattle.packet.proofs.protected.long_tail.Reads as long-tail-reads
 
 returns : tie.Need-returns
 unfolding bodyAt headed outcomeOf headerOf
-returns c =
-    let first = c .before .before .before .args .first in
-    let e : first % 128 ≡ first / 16 % 8 * 16 + first % 16 = omega arith in
-    rw e (search choices)
+returns c = search (choices, low-seven)
 
 is-listed-requires : tie.Need-is-listed-requires
 is-listed-requires c κs = search needs

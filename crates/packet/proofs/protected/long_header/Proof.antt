@@ -3,12 +3,6 @@ use Rattle.packet.specs.Header.{longAt}
 use borrow.Author.Needs.{needs}
 use Rattle.packet.proofs.protected.long_header.Statement.{statement}
 use Rattle.packet.proofs.protected.long_header.Tie as tie
-use Rattle.packet.proofs.protected.long_header.Reads as reads
-use Rattle.packet.proofs.protected.long_header.Lts as lts
-use Rattle.coding.proofs.get_u32.Reads as get-u32-reads
-use Rattle.packet.proofs.protected.long_named.Reads as long-named-reads
-use Rattle.packet.proofs.protected.refused.Reads as refused-reads
-use Rattle.shared.proofs.long_place.Reads as long-place-reads
 
 get-u32-requires : tie.Need-get-u32-requires
 get-u32-requires c κs = search needs

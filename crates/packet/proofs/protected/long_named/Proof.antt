@@ -1,10 +1,6 @@
 use borrow.Author.Needs.{needs}
 use Rattle.packet.proofs.protected.long_named.Statement.{statement}
 use Rattle.packet.proofs.protected.long_named.Tie as tie
-use Rattle.packet.proofs.protected.long_named.Reads as reads
-use Rattle.packet.proofs.protected.long_named.Lts as lts
-use Rattle.packet.proofs.protected.long_body.Reads as long-body-reads
-use Rattle.shared.proofs.cid.ConnectionId.at.Reads as at-reads
 
 at-requires : tie.Need-at-requires
 at-requires c κs = search needs

@@ -5,10 +5,6 @@ use Rattle.packet.proofs.Cases.{long-tail}
 use borrow.Author.Needs.{needs}
 use Rattle.packet.proofs.protected.long_tail.Statement.{statement}
 use Rattle.packet.proofs.protected.long_tail.Tie as tie
-use Rattle.packet.proofs.protected.long_tail.Reads as reads
-use Rattle.packet.proofs.protected.long_tail.Lts as lts
-use Rattle.packet.proofs.protected.initial_tail.Reads as initial-tail-reads
-use Rattle.packet.proofs.protected.standard_tail.Reads as standard-tail-reads
 
 enum-told : tie.Need-enum-told
 enum-told c = search needs

@@ -4,12 +4,6 @@ use Rattle.packet.specs.Said.{headerOf, outcomeOf}
 use borrow.Author.Needs.{needs}
 use Rattle.packet.proofs.protected.short_header.Statement.{statement}
 use Rattle.packet.proofs.protected.short_header.Tie as tie
-use Rattle.packet.proofs.protected.short_header.Reads as reads
-use Rattle.packet.proofs.protected.short_header.Lts as lts
-use Rattle.coding.proofs.take.Reads as take-reads
-use Rattle.packet.proofs.protected.refused.Reads as refused-reads
-use Rattle.shared.proofs.cid.ConnectionId.at.Reads as at-reads
-use Rattle.shared.proofs.cid.ConnectionId.empty.Reads as empty-reads
 
 take-requires : tie.Need-take-requires
 take-requires c κs = search needs

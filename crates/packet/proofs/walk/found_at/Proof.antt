@@ -3,8 +3,6 @@ use Rattle.packet.specs.Said.{headerOf, metOf}
 use borrow.Author.Needs.{needs}
 use Rattle.packet.proofs.walk.found_at.Statement.{statement}
 use Rattle.packet.proofs.walk.found_at.Tie as tie
-use Rattle.packet.proofs.walk.found_at.Reads as reads
-use Rattle.packet.proofs.walk.found_at.Lts as lts
 
 enum-told : tie.Need-enum-told
 enum-told c = search needs

@@ -7,18 +7,11 @@ use denote.Ref.{now}
 use Rattle.coding.proofs.Rules.{choices}
 use Rattle.packet.proofs.Cases.{made-tests, from-on}
 use Rattle.packet.specs.Split.{splitAt}
-use Rattle.packet.specs.Said.{stepOf, metOf}
-use Rattle.packet.specs.Walk.{stepOn, stepAt}
+use Rattle.packet.specs.Said.{packetStepOf, metOf}
+use Rattle.packet.specs.Walk.{stepOn, packetStepAt}
 use borrow.Author.Needs.{needs}
 use Rattle.packet.proofs.walk.step.Statement.{statement}
 use Rattle.packet.proofs.walk.step.Tie as tie
-use Rattle.packet.proofs.walk.step.Reads as reads
-use Rattle.packet.proofs.walk.step.Lts as lts
-use Rattle.packet.proofs.partial.split.Reads as split-reads
-use Rattle.packet.proofs.protected.is_outside.Reads as is-outside-reads
-use Rattle.packet.proofs.protected.refused.Reads as refused-reads
-use Rattle.packet.proofs.walk.step_on.Reads as step-on-reads
-use Rattle.packet.proofs.walk.stop_at.Reads as stop-at-reads
 
 is-outside-requires : tie.Need-is-outside-requires
 is-outside-requires c κs = search needs
@@ -27,21 +20,21 @@ stop-at-requires : tie.Need-stop-at-requires
 stop-at-requires c κs = search needs
 
 returns : tie.Need-returns
-unfolding stepAt
+unfolding packetStepAt
 returns c = search (made-tests, choices)
 
 stop-at-requires-2 : tie.Need-stop-at-requires-2
 stop-at-requires-2 c κs = search needs
 
 returns-2 : tie.Need-returns-2
-unfolding stepAt
+unfolding packetStepAt
 returns-2 c = search (made-tests, choices)
 
 refused-requires : tie.Need-refused-requires
 refused-requires c κs = search needs
 
 returns-3 : tie.Need-returns-3
-unfolding stepAt stepOf metOf
+unfolding packetStepAt packetStepOf metOf
 returns-3 c = rw (c .refused .ensures) (search (made-tests, choices))
 
 sub-split : tie.Need-sub-split
@@ -60,10 +53,10 @@ step-on-requires : tie.Need-step-on-requires
 step-on-requires c κs = search needs
 
 returns-4 : tie.Need-returns-4
-unfolding stepAt
+unfolding packetStepAt
 returns-4 c =
     let a = c .before .before .before .before .before .before .before .before .before .args in
-    let e : stepOf (c .step-on .result) ≡ stepOn (a .at) (splitAt (drop (a .at) (now (a .s))) (a .local) (now (a .versions)) (a .grease)) =
+    let e : packetStepOf (c .step-on .result) ≡ stepOn (a .at) (splitAt (drop (a .at) (now (a .s))) (a .local) (now (a .versions)) (a .grease)) =
     c .step-on .ensures
     ∙ ap (stepOn (a .at)) (c .before .split .ensures ∙ ap (λ (t : List ℕ). splitAt t (a .local) (now (a .versions)) (a .grease)) (from-on (now (a .s)) (a .at) (omega arith)))
     in

@@ -1,17 +1,14 @@
-use Rattle.packet.specs.Said.{outcomeOf, splitOf, stepOf}
+use Rattle.packet.specs.Said.{outcomeOf, splitOf, packetStepOf}
 use Rattle.packet.specs.Walk.{stepOn}
 use borrow.Author.Needs.{needs}
 use Rattle.packet.proofs.walk.step_on.Statement.{statement}
 use Rattle.packet.proofs.walk.step_on.Tie as tie
-use Rattle.packet.proofs.walk.step_on.Reads as reads
-use Rattle.packet.proofs.walk.step_on.Lts as lts
-use Rattle.packet.proofs.walk.found_at.Reads as found-at-reads
 
 found-at-requires : tie.Need-found-at-requires
 found-at-requires c κs = search needs
 
 returns : tie.Need-returns
-unfolding stepOf stepOn splitOf outcomeOf
+unfolding packetStepOf stepOn splitOf outcomeOf
 returns c = rw (c .found-at .ensures)
 
 pub step-on-spec : {M : Type 1} → statement M

@@ -1,17 +1,14 @@
-use Rattle.packet.specs.Said.{metOf, stepOf}
+use Rattle.packet.specs.Said.{metOf, packetStepOf}
 use Rattle.packet.specs.Walk.{stopAt}
 use borrow.Author.Needs.{needs}
 use Rattle.packet.proofs.walk.stop_at.Statement.{statement}
 use Rattle.packet.proofs.walk.stop_at.Tie as tie
-use Rattle.packet.proofs.walk.stop_at.Reads as reads
-use Rattle.packet.proofs.walk.stop_at.Lts as lts
-use Rattle.packet.proofs.protected.refused.Reads as refused-reads
 
 refused-requires : tie.Need-refused-requires
 refused-requires c κs = search needs
 
 returns : tie.Need-returns
-unfolding stepOf metOf stopAt
+unfolding packetStepOf metOf stopAt
 returns c = rw (c .refused .ensures)
 
 pub stop-at-spec : {M : Type 1} → statement M

@@ -5,8 +5,6 @@ use mathlib.Core.Path.{sym}
 use borrow.Author.Needs.{needs}
 use Rattle.packet.proofs.header.Decoded.has_long_header.Statement.{statement}
 use Rattle.packet.proofs.header.Decoded.has_long_header.Tie as tie
-use Rattle.packet.proofs.header.Decoded.has_long_header.Reads as reads
-use Rattle.packet.proofs.header.Decoded.has_long_header.Lts as lts
 
 enum-told : tie.Need-enum-told
 enum-told c = search needs

@@ -3,8 +3,6 @@ use Rattle.packet.specs.Said.{headerOf, longOf}
 use borrow.Author.Needs.{needs}
 use Rattle.packet.proofs.header.Decoded.is_0rtt.Statement.{statement}
 use Rattle.packet.proofs.header.Decoded.is_0rtt.Tie as tie
-use Rattle.packet.proofs.header.Decoded.is_0rtt.Reads as reads
-use Rattle.packet.proofs.header.Decoded.is_0rtt.Lts as lts
 
 enum-told : tie.Need-enum-told
 enum-told c = search needs

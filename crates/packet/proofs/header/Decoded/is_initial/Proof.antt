@@ -5,8 +5,6 @@ use mathlib.Core.Path.{sym}
 use borrow.Author.Needs.{needs}
 use Rattle.packet.proofs.header.Decoded.is_initial.Statement.{statement}
 use Rattle.packet.proofs.header.Decoded.is_initial.Tie as tie
-use Rattle.packet.proofs.header.Decoded.is_initial.Reads as reads
-use Rattle.packet.proofs.header.Decoded.is_initial.Lts as lts
 
 enum-told : tie.Need-enum-told
 enum-told c = search needs

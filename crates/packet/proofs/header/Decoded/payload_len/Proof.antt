@@ -5,8 +5,6 @@ use mathlib.Core.Path.{sym}
 use borrow.Author.Needs.{needs}
 use Rattle.packet.proofs.header.Decoded.payload_len.Statement.{statement}
 use Rattle.packet.proofs.header.Decoded.payload_len.Tie as tie
-use Rattle.packet.proofs.header.Decoded.payload_len.Reads as reads
-use Rattle.packet.proofs.header.Decoded.payload_len.Lts as lts
 
 enum-known-header : tie.Need-enum-known-header
 enum-known-header c = search needs

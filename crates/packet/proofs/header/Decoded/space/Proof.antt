@@ -3,8 +3,6 @@ use Rattle.packet.specs.Said.{headerOf, longOf, spaceOf}
 use borrow.Author.Needs.{needs}
 use Rattle.packet.proofs.header.Decoded.space.Statement.{statement}
 use Rattle.packet.proofs.header.Decoded.space.Tie as tie
-use Rattle.packet.proofs.header.Decoded.space.Reads as reads
-use Rattle.packet.proofs.header.Decoded.space.Lts as lts
 
 enum-told : tie.Need-enum-told
 enum-told c = search needs

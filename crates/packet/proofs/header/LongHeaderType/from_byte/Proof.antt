@@ -4,8 +4,6 @@ use Rattle.packet.specs.TypeBits.{typeOf}
 use Rattle.packet.specs.Said.{longTypeOf}
 use Rattle.packet.proofs.header.LongHeaderType.from_byte.Statement.{statement}
 use Rattle.packet.proofs.header.LongHeaderType.from_byte.Tie as tie
-use Rattle.packet.proofs.header.LongHeaderType.from_byte.Reads as reads
-use Rattle.packet.proofs.header.LongHeaderType.from_byte.Lts as lts
 
 returns : tie.Need-returns
 unfolding longTypeOf typeOf if_then_else_

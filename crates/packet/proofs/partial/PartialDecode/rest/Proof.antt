@@ -1,10 +1,6 @@
 use borrow.Author.Needs.{needs}
 use Rattle.packet.proofs.partial.PartialDecode.rest.Statement.{statement}
 use Rattle.packet.proofs.partial.PartialDecode.rest.Tie as tie
-use Rattle.packet.proofs.partial.PartialDecode.rest.Reads as reads
-use Rattle.packet.proofs.partial.PartialDecode.rest.Lts as lts
-use Rattle.coding.proofs.part.Reads as part-reads
-use Rattle.packet.proofs.partial.rest_place.Reads as rest-place-reads
 
 rest-place-requires : tie.Need-rest-place-requires
 rest-place-requires c κs = search needs

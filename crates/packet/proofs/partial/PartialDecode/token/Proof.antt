@@ -1,10 +1,6 @@
 use borrow.Author.Needs.{needs}
 use Rattle.packet.proofs.partial.PartialDecode.token.Statement.{statement}
 use Rattle.packet.proofs.partial.PartialDecode.token.Tie as tie
-use Rattle.packet.proofs.partial.PartialDecode.token.Reads as reads
-use Rattle.packet.proofs.partial.PartialDecode.token.Lts as lts
-use Rattle.coding.proofs.part.Reads as part-reads
-use Rattle.packet.proofs.partial.token_place.Reads as token-place-reads
 
 token-place-requires : tie.Need-token-place-requires
 token-place-requires c κs = search needs
