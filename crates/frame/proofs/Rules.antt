@@ -66,7 +66,7 @@ module _ (x : Outcome) (start t : ℕ) (r : Body) (b : Read Said) (e : bodyOf r 
 
 -- a field that goes by a bit of the type, as the code reads it
 module _ (s : List ℕ) (at : ℕ) (seen : List Value) (next : Value → ℕ → Read Said) where
-  var-if : (b : Bool) → fieldAt (if b then var else const (num 0)) s at seen next ≡ andThen (varIf b s at) (refuse 10) (λ v n. next (num v) n)
+  var-if : (b : Bool) → fieldAt (if b then var else const 0) s at seen next ≡ andThen (varIf b s at) (refuse 10) (λ v n. next (num v) n)
   unfolding fieldAt varIf andThen if_then_else_
   var-if true = refl
   var-if false = refl
@@ -78,11 +78,11 @@ module _ (s : List ℕ) (at : ℕ) (seen : List Value) (next : Value → ℕ →
 
   module _ (x : Read Said) (b c : Bool) (same : c ≡ b) where
     module _ (r : VarRead) (e : varOf r ≡ varIf c s at) where
-      pub var-if-on : (v : VarInt) (n : ℕ) → r ≡ var-read.Var v n → x ≡ next (num (v .0)) n → x ≡ fieldAt (if b then var else const (num 0)) s at seen next
+      pub var-if-on : (v : VarInt) (n : ℕ) → r ≡ var-read.Var v n → x ≡ next (num (v .0)) n → x ≡ fieldAt (if b then var else const 0) s at seen next
       unfolding andThen varOf
       var-if-on v n q h = rw (var-if b, ← same, ← e, q) h
 
-      pub var-if-cut : r ≡ var-read.End → x ≡ refuse 10 → x ≡ fieldAt (if b then var else const (num 0)) s at seen next
+      pub var-if-cut : r ≡ var-read.End → x ≡ refuse 10 → x ≡ fieldAt (if b then var else const 0) s at seen next
       unfolding andThen varOf
       var-if-cut q h = rw (var-if b, ← same, ← e, q) h
 

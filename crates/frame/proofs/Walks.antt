@@ -11,12 +11,12 @@ use borrow.Author.Tests.{ltb-false, leb-true, leb-false, eqb-false, le-ltb, le-l
 use Rattle.coding.specs.Words.{if_then_else_}
 use Rattle.frame.specs.Table.{Row, Outcome, taken, refused, frameAt}
 use Rattle.frame.specs.Walk.{onwards, walkFrom, walk, frame, end, stepAt, stepped, repeating}
-use Rattle.frame.proofs.Past.{Past, frame-past}
+use Rattle.frame.proofs.Inside.{Past, frame-past}
 
 -- after a frame the two go on alike if they are alike from every place past this one on
 on-alike : (s : List ℕ) (at : ℕ) (o : Outcome) → Past s at o → (f g : ℕ → List (ℕ × Outcome)) → ((n : ℕ) → at < n → f n ≡ g n) → onwards o f ≡ onwards o g
 unfolding onwards
-on-alike s at (taken t fr n) p f g h = h n (p .0)
+on-alike s at (taken t fr n) p f g h = h n (p .0 .0)
 on-alike s at (refused k start t) p f g h = refl
 
 module _ (rows : List Row) (s : List ℕ) where

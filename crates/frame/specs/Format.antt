@@ -30,7 +30,8 @@ pub data Field : Type 0 where
   num64 : Field  -- eight bytes, a number
   cid : Field  -- a length byte of 1 to 20, and so many bytes
   ackBlocks : Field  -- a count, and the ACK blocks of so many rounds, below the number read two fields before
-  const : Value → Field  -- no byte: what the type itself says
+  const : ℕ → Field  -- no byte: a number that the type itself says
+  absent : Field  -- no byte: nothing is there
 
 -- what is read: a value and the place past it, or a refusal's number
 pub data Read (A : Type 0) : Type 0 where
@@ -96,7 +97,8 @@ fieldAt (fixed w) s at seen next = andThen (takeAt w s at) (refuse 10) (λ p n. 
 fieldAt num64 s at seen next = andThen (fixedAt 8 s at) (refuse 10) (λ v n. next (num v) n)
 fieldAt cid s at seen next = thenRead (cidAt s at) (λ p n. next (place p) n)
 fieldAt ackBlocks s at seen next = thenRead (blocksAt s at (lastButOne seen)) (λ p n. next (place p) n)
-fieldAt (const v) s at seen next = next v at
+fieldAt (const v) s at seen next = next (num v) at
+fieldAt absent s at seen next = next none at
 
 -- the values, first one first
 abbrev pub inOrder : List Value → List Value → List Value

@@ -6,8 +6,7 @@ use mathlib.Core.Option.{Option, some, none}
 use lib.Dec.{leb}
 use Rattle.coding.specs.Words.{if_then_else_, andThen}
 use Rattle.coding.specs.Varint.{varAt}
-use Rattle.frame.specs.Format as format
-use Rattle.frame.specs.Format.{num, Said, Field, var, orNone, atMost, bytes, rest, fixed, num64, cid, ackBlocks, const, Read, done, refuse, fieldsAt, bit}
+use Rattle.frame.specs.Format.{Said, Field, var, orNone, atMost, bytes, rest, fixed, num64, cid, ackBlocks, const, absent, Read, done, refuse, fieldsAt, bit}
 
 -- a frame's types, from the first to the last, and its fields, which may go by the type
 pub record Row : Type 0 where
@@ -27,20 +26,20 @@ flag true = 1
 
 abbrev pub ecnFields : Bool → List Field
 ecnFields true = var ∷ var ∷ var ∷ []
-ecnFields false = const format.none ∷ []
+ecnFields false = absent ∷ []
 
 abbrev pub ackFields : Bool → List Field
 ackFields ecn = var ∷ var ∷ ackBlocks ∷ ecnFields ecn
 
 abbrev pub streamFields : ℕ → List Field
 streamFields t =
-    var ∷ (if bit 4 t then var else const (num 0)) ∷ const (num (flag (bit 1 t))) ∷ const (num (flag (bit 2 t))) ∷ (if bit 2 t then bytes else rest) ∷ []
+    var ∷ (if bit 4 t then var else const 0) ∷ const (flag (bit 1 t)) ∷ const (flag (bit 2 t)) ∷ (if bit 2 t then bytes else rest) ∷ []
 
 abbrev pub countFields : ℕ → List Field
-countFields way = const (num way) ∷ var ∷ []
+countFields way = const way ∷ var ∷ []
 
 abbrev pub dataFields : ℕ → List Field
-dataFields t = const (num (flag (bit 1 t))) ∷ (if bit 1 t then bytes else rest) ∷ []
+dataFields t = const (flag (bit 1 t)) ∷ (if bit 1 t then bytes else rest) ∷ []
 
 unfoldable pub table : List Row
 table =
