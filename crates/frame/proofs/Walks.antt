@@ -9,6 +9,7 @@ use lib.ListN.{length}
 use lib.Dec.{ltb, leb, eqb}
 use borrow.Author.Tests.{ltb-false, leb-true, leb-false, eqb-false, le-ltb, le-leb, lt-leb, ne-eqb}
 use Rattle.coding.specs.Words.{if_then_else_}
+use Rattle.frame.specs.Format.{Said}
 use Rattle.frame.specs.Table.{Row, Outcome, taken, refused, frameAt}
 use Rattle.frame.specs.Walk.{onwards, walkFrom, walk, frame, end, stepAt, stepped, repeating}
 use Rattle.frame.proofs.Inside.{Past, frame-past}
@@ -28,6 +29,11 @@ module _ (rows : List Row) (s : List ℕ) where
   walk-one : (n at : ℕ) → at < length s → walkFrom rows s (suc n) at ≡ (at, frameAt rows s at) ∷ onwards (frameAt rows s at) (walkFrom rows s n)
   unfolding walkFrom if_then_else_
   walk-one n at h = simp (lt-leb _ _ h)
+
+  -- a frame that was read is the walk's next, and the walk goes on past it
+  pub walk-taken : (turns at t n : ℕ) (f : Said) → frameAt rows s at ≡ taken t f n → walkFrom rows s (suc turns) at ≡ (at, taken t f n) ∷ walkFrom rows s turns n
+  unfolding onwards
+  walk-taken turns at t n f e = let i = rw e at (frame-past rows s at) in rw e at (walk-one turns at (omega arith))
 
   -- more turns than bytes are left say nothing more
   pub enough : (n m at : ℕ) → length s - at ≤ n → n ≤ m → walkFrom rows s m at ≡ walkFrom rows s n at
@@ -67,6 +73,10 @@ module _ (rows : List Row) (s : List ℕ) where
             (ap (λ (r : List (ℕ × Outcome)). (at, frameAt rows s at) ∷ r)
             (on-alike s at (frameAt rows s at) (frame-past rows s at) (repeating rows n s) (walkFrom rows s n) (λ p q. ih p))
             ∙ sym (walk-one n at (leb-false _ _ e)))
+
+  -- a frame that was read is what the step hands out
+  pub step-taken : (at t n : ℕ) (f : Said) → length s ≤ 65527 → frameAt rows s at ≡ taken t f n → stepAt rows s at ≡ frame (taken t f n)
+  step-taken at t n f fits e = let i = rw e at (frame-past rows s at) in rw e at (step-one (omega arith) fits at (omega arith))
 
   -- the step repeated from place 0 on, as often as the payload has bytes or more, is the walk
   pub repeated : (n : ℕ) → length s ≤ n → repeating rows (suc n) s 0 ≡ walk rows s

@@ -17,8 +17,9 @@ use Rattle.coding.proofs.Back.{fixed-back, take-back, part-back, var-back}
 use Rattle.coding.proofs.Laws.{length-bytesBE, length-var}
 use Rattle.shared.proofs.Laws.{one-byte}
 use Rattle.ack.specs.Scan.{scanAt}
-use Rattle.frame.specs.Format.{Value, num, place, none, Said, said, Field, var, orNone, atMost, bytes, rest, fixed, num64, cid, ackBlocks, const, last, lastButOne, Read, done, thenRead, bytesAt, restAt, cidAt, upTo, blocksAt, orNothing, fieldAt, fieldsAt, inOrder}
+use Rattle.frame.specs.Format.{Value, num, place, none, Said, said, Field, var, orNone, atMost, bytes, rest, fixed, num64, cid, ackBlocks, const, absent, last, lastButOne, Read, done, thenRead, bytesAt, restAt, cidAt, upTo, blocksAt, orNothing, fieldAt, fieldsAt, inOrder}
 use Rattle.frame.specs.Table.{Row, look, bodyAt, outcome, taken, frameAt}
+use Rattle.frame.proofs.Walks.{step-taken}
 use Rattle.row_out.specs.Writing.{Word, number, raw, nothing, numberIn, rawIn, roundsIn, fieldBytes, rowBytes, frameBytes}
 use Rattle.row_out.specs.Back.{wordOf, Fits, valueAt, valuesAt, Writes, wordRead, wordsRead, ReadAs}
 use Rattle.row_out.specs.Limits.{below62, numbersIn, frameOut, varsOut}
@@ -87,7 +88,8 @@ field-back cid w p q seen k h =
     rw (cid-back p (rawIn w) q (h .0) (h .1), e)
 field-back ackBlocks w p q seen k h =
     rw (blocks-back p (rawIn w) q (roundsIn (rawIn w)) (lastButOne seen) (h .0) (h .1), length-append, length-var, ← add-assoc)
-field-back (const v) w p q seen k h = rw add-zero
+field-back (const n) w p q seen k h = rw add-zero
+field-back absent w p q seen k h = rw add-zero
 
 -- ---- a row
 
@@ -145,7 +147,8 @@ word-back (fixed m) w p q seen h = rw (← h) (ap raw (part-back p (rawIn w) q))
 word-back num64 w p q seen h = refl
 word-back cid w p q seen h = ap raw (behind p (length (rawIn w) ∷ []) (rawIn w) q 1 refl)
 word-back ackBlocks w p q seen h = ap raw (behind p (varBytes (roundsIn (rawIn w))) (rawIn w) q _ (length-var _))
-word-back (const v) w p q seen h = h (p ++ q)
+word-back (const n) w p q seen h = sym h
+word-back absent w p q seen h = sym h
 
 pub words-back : (fs : List Field) (ws : List Word) (p q : List ℕ) (seen : List Value) → Writes fs ws seen (length p) q
     → map (wordOf (p ++ (rowBytes fs ws ++ q))) (valuesAt fs ws (length p)) ≡ wordsRead fs ws
@@ -171,7 +174,7 @@ read-as rows t r ws p q e h k =
     let b : List ℕ = rowBytes (r .fields t) ws in
     record {
       values = valuesAt (r .fields t) ws (length p + varSize t);
-      read = frame-back rows t r ws p q e h k;
+      read = λ fits. step-taken rows _ _ _ _ _ fits (frame-back rows t r ws p q e h k);
       say = rw (e, append-assoc (varBytes t) b q) (rw (l, append-assoc p (varBytes t) (b ++ q)) at w);
     }
 

@@ -7,8 +7,9 @@ use Rattle.coding.specs.Words.{ok}
 use Rattle.coding.specs.Places.{partOf}
 use Rattle.coding.specs.Varint.{varSize}
 use Rattle.ack.specs.Scan.{scanAt}
-use Rattle.frame.specs.Format.{Value, num, place, none, said, Field, var, orNone, atMost, bytes, rest, fixed, num64, cid, ackBlocks, const, last, lastButOne, orNothing}
-use Rattle.frame.specs.Table.{Row, taken, frameAt}
+use Rattle.frame.specs.Format.{Value, num, place, none, said, Field, var, orNone, atMost, bytes, rest, fixed, num64, cid, ackBlocks, const, absent, last, lastButOne, orNothing}
+use Rattle.frame.specs.Table.{Row, taken}
+use Rattle.frame.specs.Walk.{frame, stepAt}
 use Rattle.row_out.specs.Writing.{Word, number, raw, nothing, numberIn, rawIn, roundsIn, fieldBytes, rowBytes}
 
 -- a value, with the bytes of the part that it names
@@ -30,7 +31,8 @@ Fits num64 w seen q = numberIn w < 2 ^ 64
 Fits cid w seen q = (0 < length (rawIn w)) × (length (rawIn w) ≤ 20)
 Fits ackBlocks w seen q =
     (roundsIn (rawIn w) < 2 ^ 62) × (scanAt (rawIn w) 0 (lastButOne seen) (roundsIn (rawIn w)) ≡ ok (length (rawIn w)))
-Fits (const v) w seen q = (s : List ℕ) → wordOf s v ≡ w
+Fits (const n) w seen q = w ≡ number n
+Fits absent w seen q = w ≡ nothing
 
 -- so many bytes from a place on
 abbrev pub span : ℕ → ℕ → Value
@@ -47,7 +49,8 @@ valueAt (fixed k) w at = span at k
 valueAt num64 w at = num (numberIn w)
 valueAt cid w at = span (at + 1) (length (rawIn w))
 valueAt ackBlocks w at = span (at + varSize (roundsIn (rawIn w))) (length (rawIn w))
-valueAt (const v) w at = v
+valueAt (const n) w at = num n
+valueAt absent w at = none
 
 abbrev pub valuesAt : List Field → List Word → ℕ → List Value
 valuesAt [] ws at = []
@@ -74,7 +77,8 @@ wordRead (fixed k) w = raw (rawIn w)
 wordRead num64 w = number (numberIn w)
 wordRead cid w = raw (rawIn w)
 wordRead ackBlocks w = raw (rawIn w)
-wordRead (const v) w = w
+wordRead (const n) w = w
+wordRead absent w = w
 
 abbrev pub wordsRead : List Field → List Word → List Word
 wordsRead [] ws = []
@@ -83,8 +87,9 @@ wordsRead (f ∷ fs) (w ∷ ws) = wordRead f w ∷ wordsRead fs ws
 
 -- ---- what is read
 
--- the bytes bs, behind p and before q, are read as a frame of type t whose values say the words ws, and the place past it
+-- the bytes bs, behind p and before q in a payload within its rule: the step there hands out a frame of type t, whose values say
+-- the words ws, and the place past it
 pub record ReadAs (rows : List Row) (t name : ℕ) (ws : List Word) (p bs q : List ℕ) : Type 0 where
   pub values : List Value
-  pub read : frameAt rows (p ++ (bs ++ q)) (length p) ≡ taken t (said name values) (length p + length bs)
+  pub read : length (p ++ (bs ++ q)) ≤ 65527 → stepAt rows (p ++ (bs ++ q)) (length p) ≡ frame (taken t (said name values) (length p + length bs))
   pub say : map (wordOf (p ++ (bs ++ q))) values ≡ ws

@@ -6,7 +6,7 @@ use lib.ListN.{length}
 use Rattle.coding.specs.Words.{andThen}
 use Rattle.coding.specs.Bytes.{bytesBE}
 use Rattle.coding.specs.Varint.{varAt, varBytes}
-use Rattle.frame.specs.Format.{Field, var, orNone, atMost, bytes, rest, fixed, num64, cid, ackBlocks, const}
+use Rattle.frame.specs.Format.{Field, var, orNone, atMost, bytes, rest, fixed, num64, cid, ackBlocks, const, absent}
 use Rattle.frame.specs.Table.{Row, look}
 
 -- what is given to a field: a number, some bytes, or nothing
@@ -47,7 +47,8 @@ fieldBytes (fixed k) w = rawIn w
 fieldBytes num64 w = bytesBE 8 (numberIn w)
 fieldBytes cid w = length (rawIn w) ∷ rawIn w
 fieldBytes ackBlocks w = varBytes (roundsIn (rawIn w)) ++ rawIn w
-fieldBytes (const v) w = []
+fieldBytes (const n) w = []
+fieldBytes absent w = []
 
 -- a word for each field; fields that have none are not written
 unfoldable pub rowBytes : List Field → List Word → List ℕ
