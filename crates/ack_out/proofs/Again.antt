@@ -18,8 +18,10 @@ use Rattle.ack.proofs.Ranges as stepped
 use Rattle.ack_iter.specs.Iter.{reading}
 use Rattle.ack_iter.proofs.Ranges as iterated
 use Rattle.frame.specs.Format as format
-use Rattle.frame.specs.Format.{Value, num, place, said, Field, var, ackBlocks, const}
-use Rattle.frame.specs.Table.{table, taken, frameAt}
+use Rattle.frame.specs.Format.{Value, num, place, said, Field, var, ackBlocks, absent}
+use Rattle.frame.specs.Table.{table, taken}
+use Rattle.frame.specs.Walk.{frame, stepAt}
+use Rattle.frame.proofs.Walks.{step-taken}
 use Rattle.row_out.specs.Writing.{Word, number, raw, nothing, roundsIn, fieldBytes, rowBytes, frameBytes}
 use Rattle.row_out.specs.Limits.{below62, varsBytes}
 use Rattle.row_out.specs.Back.{Writes}
@@ -79,10 +81,11 @@ abbrev pub ecnValues : Option (ℕ × (ℕ × ℕ)) → List Value
 ecnValues none = format.none ∷ []
 ecnValues (some (ect0, (ect1, ce))) = num ect0 ∷ num ect1 ∷ num ce ∷ []
 
--- the frame at a place of s is the ACK of ranges, and ends at n
+-- in a payload within its rule, the step at a place hands out the ACK of ranges, which ends at n
 pub record Back (s : List ℕ) (start delay : ℕ) (rs : List Range) (ecn : Option (ℕ × (ℕ × ℕ))) (n : ℕ) : Type 0 where
   pub blocks : Place
-  pub read : frameAt table s start ≡ taken (typeOf ecn) (said 0x02 (num (largestOf rs) ∷ num delay ∷ place blocks ∷ ecnValues ecn)) n
+  pub read : length s ≤ 65527
+      → stepAt table s start ≡ frame (taken (typeOf ecn) (said 0x02 (num (largestOf rs) ∷ num delay ∷ place blocks ∷ ecnValues ecn)) n)
   pub bytes : partOf s blocks ≡ blockBytes rs
 
 -- the words fit the row, whatever counts follow
@@ -121,12 +124,12 @@ back-with : (p q : List ℕ) (delay : ℕ) (rs : List Range) (ecn : Option (ℕ 
     (length p + length (frameBytes table (typeOf ecn) (ackWords delay rs ecn)))
 unfolding typeOf ackWords ecnWords countsOf frameBytes fieldBytes table
 back-with p q delay rs none t d b r n =
-    let more : List Field = const format.none ∷ [] in
+    let more : List Field = absent ∷ [] in
     let ws : List Word = nothing ∷ [] in
-    let w = front delay rs more ws (length p + varSize 0x02) q t d r n (λ seen at. ((λ s. refl), tt)) in
+    let w = front delay rs more ws (length p + varSize 0x02) q t d r n (λ seen at. (refl, tt)) in
     record {
       blocks = blocksAt p q delay rs 0x02 (omega arith) more ws;
-      read = frame-back table 0x02 _ _ p q refl (omega arith) w;
+      read = λ fits. step-taken table _ _ _ _ _ fits (frame-back table 0x02 _ _ p q refl (omega arith) w);
       bytes = part-told p q delay rs 0x02 (omega arith) more ws w;
     }
 back-with p q delay rs (some (x, (y, z))) t d b r n =
@@ -138,7 +141,7 @@ back-with p q delay rs (some (x, (y, z))) t d b r n =
     let w = front delay rs more ws (length p + varSize 0x03) q t d r n (λ seen at. (i .0, (j .0, (k .0, tt)))) in
     record {
       blocks = blocksAt p q delay rs 0x03 (omega arith) more ws;
-      read = frame-back table 0x03 _ _ p q refl (omega arith) w;
+      read = λ fits. step-taken table _ _ _ _ _ fits (frame-back table 0x03 _ _ p q refl (omega arith) w);
       bytes = part-told p q delay rs 0x03 (omega arith) more ws w;
     }
 

@@ -38,9 +38,10 @@ ghost use Rattle.coding.specs.Said.{sizedOf, wroteOf};
 ghost use Rattle.coding.specs.Writing.{lengthOf, Written};
 ghost use Rattle.shared.specs.Cid.{longBytes};
 ghost use Rattle.row_out.specs.Limits.{varsOut};
+ghost use Rattle.frame_out.specs.Bounds.{sizeBounds};
 ghost use Rattle.frame_out.specs.Frames.{ecnOut, streamType, metaOut, cryptoOut, newTokenOut, resetStreamOut, stopSendingOut, newCidOut, datagramOut, ackFrequencyOut};
 
-// The smallest number of bytes that a frame is guaranteed to fit within, besides its data, is its SIZE_BOUND.
+// The smallest number of bytes that a frame is guaranteed to fit within, besides its data, is its SIZE_BOUND; `size_bounds` has all.
 pub const STREAM_SIZE_BOUND: usize = 1 + 8 + 8 + 8;
 
 // A stream frame without its data, which lies from `start` to `end`.
@@ -49,15 +50,6 @@ pub struct StreamMeta {
     pub start: u64,
     pub end: u64,
     pub fin: bool,
-}
-
-impl StreamMeta {
-    pub const DEFAULT: StreamMeta = StreamMeta {
-        id: StreamId(0),
-        start: 0,
-        end: 0,
-        fin: false,
-    };
 }
 
 // The ECN counts of an ACK.
@@ -235,4 +227,20 @@ pub fn ack_frequency(frame: AckFrequency, out: &mut [u8]) -> Wrote
         frame.reordering_threshold,
     ];
     row_out::frame_of(&vals, &[], out)
+}
+
+// The bounds of the two closes, of STREAM, CRYPTO, RESET_STREAM, STOP_SENDING, NEW_CONNECTION_ID and DATAGRAM.
+pub fn size_bounds() -> [usize; 8]
+    ensures { λ r. ⌜ r ≡ sizeBounds ⌝ }
+{
+    [
+        CONNECTION_CLOSE_SIZE_BOUND,
+        APPLICATION_CLOSE_SIZE_BOUND,
+        STREAM_SIZE_BOUND,
+        CRYPTO_SIZE_BOUND,
+        RESET_STREAM_SIZE_BOUND,
+        STOP_SENDING_SIZE_BOUND,
+        NEW_CONNECTION_ID_SIZE_BOUND,
+        DATAGRAM_SIZE_BOUND,
+    ]
 }

@@ -19,12 +19,14 @@ use Rattle.shared.proofs.Laws.{one-byte}
 use Rattle.ack.specs.Scan.{scanAt}
 use Rattle.frame.specs.Format.{Value, num, place, none, Said, said, Field, var, orNone, atMost, bytes, rest, fixed, num64, cid, ackBlocks, const, absent, last, lastButOne, Read, done, thenRead, bytesAt, restAt, cidAt, upTo, blocksAt, orNothing, fieldAt, fieldsAt, inOrder}
 use Rattle.frame.specs.Table.{Row, look, bodyAt, outcome, taken, frameAt}
-use Rattle.frame.proofs.Walks.{step-taken}
+use Rattle.frame.proofs.Walks.{step-taken, walk-taken}
 use Rattle.row_out.specs.Writing.{Word, number, raw, nothing, numberIn, rawIn, roundsIn, fieldBytes, rowBytes, frameBytes}
 use Rattle.row_out.specs.Back.{wordOf, Fits, valueAt, valuesAt, Writes, wordRead, wordsRead, ReadAs}
+use Rattle.row_out.specs.Bounds.{boundOf}
 use Rattle.row_out.specs.Limits.{below62, numbersIn, frameOut, varsOut}
 use Rattle.row_out.proofs.Laws.{limited-seen, out-seen}
 use Rattle.row_out.proofs.Local.{scan-local}
+use Rattle.row_out.proofs.Bounds.{row-bound, data-read}
 
 -- ---- the fields that are more than an integer, each behind p and before q
 
@@ -167,7 +169,7 @@ words-back (f ∷ fs) (w ∷ ws) p q seen h =
 
 pub read-as : (rows : List Row) (t : ℕ) (r : Row) (ws : List Word) (p q : List ℕ) → look rows t ≡ some r → t < 2 ^ 62
     → Writes (r .fields t) ws [] (length p + varSize t) q → ReadAs rows t (r .first) (wordsRead (r .fields t) ws) p (frameBytes rows t ws) q
-unfolding frameBytes
+unfolding frameBytes boundOf
 read-as rows t r ws p q e h k =
     let l : length (p ++ varBytes t) ≡ length p + varSize t = simp (length-append, length-var) in
     let w = words-back (r .fields t) ws (p ++ varBytes t) q [] (rw l k) in
@@ -175,7 +177,9 @@ read-as rows t r ws p q e h k =
     record {
       values = valuesAt (r .fields t) ws (length p + varSize t);
       read = λ fits. step-taken rows _ _ _ _ _ fits (frame-back rows t r ws p q e h k);
+      walked = λ turns. walk-taken rows _ turns _ _ _ _ (frame-back rows t r ws p q e h k);
       say = rw (e, append-assoc (varBytes t) b q) (rw (l, append-assoc p (varBytes t) (b ++ q)) at w);
+      short = rw (e, data-read (r .fields t) ws, length-append, length-var) (omega (arith, row-bound (r .fields t) ws [] (length p + varSize t) q k));
     }
 
 -- what an encoder wrote: its integers ys say that the words fit

@@ -1,5 +1,5 @@
 -- What is written is read back: which words fit a row, and the values that are read of them.
-use Prim.Native.Nat.{ℕ, _+_, _≤_, _<_, _^_}
+use Prim.Native.Nat.{ℕ, suc, _+_, _≤_, _<_, _^_}
 use mathlib.Core.Path.{_≡_}
 use mathlib.Core.List.{List, [], _∷_, _++_, map}
 use lib.ListN.{length}
@@ -8,9 +8,10 @@ use Rattle.coding.specs.Places.{partOf}
 use Rattle.coding.specs.Varint.{varSize}
 use Rattle.ack.specs.Scan.{scanAt}
 use Rattle.frame.specs.Format.{Value, num, place, none, said, Field, var, orNone, atMost, bytes, rest, fixed, num64, cid, ackBlocks, const, absent, last, lastButOne, orNothing}
-use Rattle.frame.specs.Table.{Row, taken}
-use Rattle.frame.specs.Walk.{frame, stepAt}
-use Rattle.row_out.specs.Writing.{Word, number, raw, nothing, numberIn, rawIn, roundsIn, fieldBytes, rowBytes}
+use Rattle.frame.specs.Table.{Row, look, taken}
+use Rattle.frame.specs.Walk.{walkFrom, frame, stepAt}
+use Rattle.row_out.specs.Writing.{Word, number, raw, nothing, numberIn, rawIn, roundsIn, fieldBytes, rowBytes, fieldsOf}
+use Rattle.row_out.specs.Bounds.{boundOf, dataIn}
 
 -- a value, with the bytes of the part that it names
 abbrev pub wordOf : List ℕ → Value → Word
@@ -87,9 +88,12 @@ wordsRead (f ∷ fs) (w ∷ ws) = wordRead f w ∷ wordsRead fs ws
 
 -- ---- what is read
 
--- the bytes bs, behind p and before q in a payload within its rule: the step there hands out a frame of type t, whose values say
--- the words ws, and the place past it
+-- the bytes bs, behind p and before q in a payload within its rule: the step there hands out a frame of type t and the place past
+-- it, and so does the walk, which goes on from that place; its values say the words ws; it is no longer than its bound, besides data
 pub record ReadAs (rows : List Row) (t name : ℕ) (ws : List Word) (p bs q : List ℕ) : Type 0 where
   pub values : List Value
   pub read : length (p ++ (bs ++ q)) ≤ 65527 → stepAt rows (p ++ (bs ++ q)) (length p) ≡ frame (taken t (said name values) (length p + length bs))
+  pub walked : (turns : ℕ) → walkFrom rows (p ++ (bs ++ q)) (suc turns) (length p)
+      ≡ (length p, taken t (said name values) (length p + length bs)) ∷ walkFrom rows (p ++ (bs ++ q)) turns (length p + length bs)
   pub say : map (wordOf (p ++ (bs ++ q))) values ≡ ws
+  pub short : length bs ≤ boundOf rows t + dataIn (fieldsOf (look rows t) t) ws
