@@ -1,4 +1,4 @@
--- Over what the scan took, stepping hands out exactly the scan's ranges, largest first, and ends. Assumes nothing.
+-- Over what the scan took, stepping hands out exactly the scan's ranges, largest first, and ends.
 use mathlib.Core.Path.{_≡_, refl, sym, ap, _∙_}
 use mathlib.Core.List.{List, [], _∷_, _++_, map}
 use Prim.Native.Nat.{ℕ, zero, suc, _+_, _-_, _%_, _≤_, _<_, _^_}

@@ -17,9 +17,9 @@ use Rattle.coding.proofs.Rules.{if-all, then-all}
 use Rattle.ack.specs.Scan.{scanAt}
 use Rattle.ack.proofs.Laws.{Inside, scan-inside}
 use Rattle.frame.specs.Format as format
-use Rattle.frame.specs.Format.{Value, num, place, Said, said, Field, var, orNone, atMost, bytes, rest, fixed, num64, cid, ackBlocks, const, absent, last, lastButOne, inOrder, Read, done, refuse, thenRead, bytesAt, restAt, cidAt, upTo, blocksAt, orNothing, fieldAt, fieldsAt}
-use Rattle.frame.specs.Table.{Row, look, readRow, bodyAt, Outcome, taken, refused, outcome, frameAt}
-use Rattle.frame.specs.Walk.{Step, frame, end, stepAt}
+use Rattle.frame.specs.Format.{Value, num, place, Said, said, Field, var, orNone, atMost, bytes, rest, fixed, num64, cid, ackBlocks, const, absent, lastRead, lastButOne, inOrder, Read, done, refuse, thenRead, bytesAt, allLeftAt, cidAt, upTo, blocksAt, orNothing, fieldAt, fieldsAt}
+use Rattle.frame.specs.Table.{Row, look, readRow, frameBodyAt, FrameOutcome, taken, refused, outcome, frameAt}
+use Rattle.frame.specs.Walk.{WalkStep, frame, end, stepAt}
 use Rattle.frame.specs.Inside.{PartsBetween, FrameInside, PlacesInside, StepInside}
 
 -- ---- parts between two places
@@ -135,14 +135,14 @@ module _ (s : List ℕ) (at : ℕ) where
     then-reads (refuse k) h = no k
 
     field-in : (f : Field) (seen : List Value) → at ≤ length s → P (fieldAt f s at seen next)
-    unfolding fieldAt restAt orNothing
+    unfolding fieldAt allLeftAt orNothing
     field-in var seen k = then-var at (omega arith) P (refuse 10) (no 10) _ (λ v n i. g _ n i tt)
     field-in orNone seen k =
         then-var at (omega arith) P (refuse 10) (no 10) _ (λ v n i. g _ n i (if-all (ValueIn at n) (eqb v 0) format.none (num v) (λ _. tt) (λ _. tt)))
     field-in atMost seen k =
-        then-var at (omega arith) P (refuse 10) (no 10) _ (λ v n i. if-all P (ltb (last seen) v) _ _ (λ _. no 12) (λ _. g _ n i tt))
+        then-var at (omega arith) P (refuse 10) (no 10) _ (λ v n i. if-all P (ltb (lastRead seen) v) _ _ (λ _. no 12) (λ _. g _ n i tt))
     field-in bytes seen k = then-found (bytesAt s at) (bytes-found at (omega arith))
-    field-in rest seen k = then-found (restAt s at) (take-found at _ (omega arith))
+    field-in rest seen k = then-found (allLeftAt s at) (take-found at _ (omega arith))
     field-in (fixed w) seen k = then-found (takeAt w s at) (take-found at w (omega arith))
     field-in num64 seen k = then-fixed at (omega arith) P (refuse 10) (no 10) 8 _ (λ v n i. g _ n i tt)
     field-in cid seen k = then-reads (cidAt s at) (cid-reads at (omega arith))
@@ -174,7 +174,7 @@ module _ (s : List ℕ) (start : ℕ) where
 abbrev pub valuesIn : Said → List Value
 valuesIn (said name vs) = vs
 
-abbrev pub Past : List ℕ → ℕ → Outcome → Type 0
+abbrev pub Past : List ℕ → ℕ → FrameOutcome → Type 0
 Past s start (taken t f n) = FrameInside s start (valuesIn f) n
 Past s start (refused k at t) = Unit
 
@@ -184,7 +184,7 @@ outcome-past s start at t (done (said name vs) n) h i = ((omega arith, i .0 .1),
 outcome-past s start at t (refuse k) h i = tt
 
 pub frame-past : (rows : List Row) (s : List ℕ) (start : ℕ) → Past s start (frameAt rows s start)
-unfolding frameAt bodyAt
+unfolding frameAt frameBodyAt
 frame-past rows s start =
     then-all (Past s start) (varAt s start) _ _ (λ _. tt) (λ t at e.
     let i = var-inside s start t at e in
@@ -195,7 +195,7 @@ places-inside rows s start t name vs next e = rw e at (frame-past rows s start)
 
 -- ---- a step
 
-abbrev StepPast : List ℕ → ℕ → Step → Type 0
+abbrev StepPast : List ℕ → ℕ → WalkStep → Type 0
 StepPast s at (frame o) = Past s at o
 StepPast s at end = Unit
 

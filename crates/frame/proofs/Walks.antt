@@ -1,4 +1,4 @@
--- Laws of the walk: repeating the step is the walk, and its turns are enough. Assumes nothing.
+-- Laws of the walk: repeating the step is the walk, and its turns are enough.
 use mathlib.Core.Path.{_≡_, refl, sym, ap, _∙_}
 use mathlib.Core.List.{List, [], _∷_}
 use mathlib.Core.Bool.{Bool, true, false}
@@ -10,12 +10,12 @@ use lib.Dec.{ltb, leb, eqb}
 use borrow.Author.Tests.{ltb-false, leb-true, leb-false, eqb-false, le-ltb, le-leb, lt-leb, ne-eqb}
 use Rattle.coding.specs.Words.{if_then_else_}
 use Rattle.frame.specs.Format.{Said}
-use Rattle.frame.specs.Table.{Row, Outcome, taken, refused, frameAt}
+use Rattle.frame.specs.Table.{Row, FrameOutcome, taken, refused, frameAt}
 use Rattle.frame.specs.Walk.{onwards, walkFrom, walk, frame, end, stepAt, stepped, repeating}
 use Rattle.frame.proofs.Inside.{Past, frame-past}
 
 -- after a frame the two go on alike if they are alike from every place past this one on
-on-alike : (s : List ℕ) (at : ℕ) (o : Outcome) → Past s at o → (f g : ℕ → List (ℕ × Outcome)) → ((n : ℕ) → at < n → f n ≡ g n) → onwards o f ≡ onwards o g
+on-alike : (s : List ℕ) (at : ℕ) (o : FrameOutcome) → Past s at o → (f g : ℕ → List (ℕ × FrameOutcome)) → ((n : ℕ) → at < n → f n ≡ g n) → onwards o f ≡ onwards o g
 unfolding onwards
 on-alike s at (taken t fr n) p f g h = h n (p .0 .0)
 on-alike s at (refused k start t) p f g h = refl
@@ -47,7 +47,7 @@ module _ (rows : List Row) (s : List ℕ) where
       go false e ih =
           let l : at < length s = leb-false _ _ e in
           walk-one m at l
-          ∙ ap (λ (r : List (ℕ × Outcome)). (at, frameAt rows s at) ∷ r)
+          ∙ ap (λ (r : List (ℕ × FrameOutcome)). (at, frameAt rows s at) ∷ r)
           (on-alike s at (frameAt rows s at) (frame-past rows s at) (walkFrom rows s m) (walkFrom rows s n) ih)
           ∙ sym (walk-one n at l)
 
@@ -70,7 +70,7 @@ module _ (rows : List Row) (s : List ℕ) where
         go true e ih = rw (step-end at (leb-true _ _ e)) (sym (walk-end (suc n) at (leb-true _ _ e)))
         go false e ih =
             rw (step-one at (leb-false _ _ e))
-            (ap (λ (r : List (ℕ × Outcome)). (at, frameAt rows s at) ∷ r)
+            (ap (λ (r : List (ℕ × FrameOutcome)). (at, frameAt rows s at) ∷ r)
             (on-alike s at (frameAt rows s at) (frame-past rows s at) (repeating rows n s) (walkFrom rows s n) (λ p q. ih p))
             ∙ sym (walk-one n at (leb-false _ _ e)))
 

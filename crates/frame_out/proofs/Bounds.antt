@@ -1,5 +1,5 @@
 -- A stream frame and a datagram of any type are no longer than the bound of their last type, besides the data. Of the other frames
--- `Trips` has it, in the field `short` of each law.
+-- `ReadBack` has it, in the field `short` of each law.
 use mathlib.Core.Path.{_≡_, refl}
 use mathlib.Core.List.{List, [], _∷_, _++_}
 use mathlib.Core.Bool.{Bool, true, false}
@@ -14,7 +14,7 @@ use Rattle.row_out.specs.Writing.{raw, fieldsOf}
 use Rattle.row_out.specs.Bounds.{boundOf, dataIn}
 use Rattle.frame_out.specs.Frames.{streamType, streamWords, metaOut, datagramOut}
 use Rattle.frame_out.proofs.Vals.{typeBy}
-use Rattle.frame_out.proofs.Trips.{datagram-read, stream-read}
+use Rattle.frame_out.proofs.ReadBack.{datagram-read, stream-read}
 
 -- what the row of a type allows a stream of data d
 abbrev allowed : ℕ → ℕ → ℕ → Bool → Bool → List ℕ → ℕ

@@ -27,7 +27,9 @@ use frame::StopSending;
 use shared::ConnectionId;
 use shared::FrameType;
 use shared::MAX_CID_SIZE;
+use shared::NUMBER_END;
 use shared::StreamId;
+use shared::types;
 ghost use mathlib.Core.Path.{_≡_};
 ghost use mathlib.Core.List.{_++_};
 ghost use Prim.Native.Nat.{_≤_};
@@ -67,7 +69,7 @@ fn offset_bit(start: u64) -> u64
     if start == 0 {
         return 0;
     }
-    4
+    types::OFF
 }
 
 // A bit of the type, where it stands.
@@ -78,31 +80,31 @@ fn bit_if(there: bool, bit: u64) -> u64
 }
 
 // The type of a stream frame.
-fn stream_type(start: u64, fin: bool, length: bool) -> u64
-    ensures { λ r. ⌜ r ≡ streamType start fin length ⌝ }
+fn stream_type(start: u64, fin: bool, with_len: bool) -> u64
+    ensures { λ r. ⌜ r ≡ streamType start fin «with_len» ⌝ }
 {
-    0x08 + offset_bit(start) + bit_if(length, 2) + bit_if(fin, 1)
+    types::STREAM_FIRST + offset_bit(start) + bit_if(with_len, types::LEN) + bit_if(fin, types::FIN)
 }
 
-// A stream frame up to its data; `length` says whether the data's length is written.
-pub fn stream_meta(meta: StreamMeta, length: bool, out: &mut [u8]) -> Wrote
-    ensures { λ r. ⌜ Written (metaOut (meta .id .0) (meta .start) (meta .end) (meta .fin) length) (now (out .entry)) (wroteOf r) (now (out .exit)) ⌝ }
+// A stream frame up to its data; `with_len` says whether the data's length is written.
+pub fn stream_meta(meta: StreamMeta, with_len: bool, out: &mut [u8]) -> Wrote
+    ensures { λ r. ⌜ Written (metaOut (meta .id .0) (meta .start) (meta .end) (meta .fin) «with_len») (now (out .entry)) (wroteOf r) (now (out .exit)) ⌝ }
 {
     if meta.end < meta.start {
         return Wrote::Refused(Refusal::Argument);
     }
-    if 0x4000_0000_0000_0000 <= meta.end {
+    if NUMBER_END <= meta.end {
         return Wrote::Refused(Refusal::Argument);
     }
-    let ty = stream_type(meta.start, meta.fin, length);
+    let ty = stream_type(meta.start, meta.fin, with_len);
     let len = meta.end - meta.start;
     if meta.start == 0 {
-        if length {
+        if with_len {
             return row_out::frame_of(&[ty, meta.id.0, len], &[], out);
         }
         return row_out::frame_of(&[ty, meta.id.0], &[], out);
     }
-    if length {
+    if with_len {
         return row_out::frame_of(&[ty, meta.id.0, meta.start, len], &[], out);
     }
     row_out::frame_of(&[ty, meta.id.0, meta.start], &[], out)
@@ -188,7 +190,7 @@ pub fn new_connection_id(
     if id.len == 0 {
         return Wrote::Refused(Refusal::Argument);
     }
-    if 20 < id.len {
+    if MAX_CID_SIZE < id.len as usize {
         return Wrote::Refused(Refusal::Argument);
     }
     let vals = [FrameType::NEW_CONNECTION_ID.0, sequence, retire_prior_to];
@@ -198,22 +200,22 @@ pub fn new_connection_id(
 pub const DATAGRAM_SIZE_BOUND: usize = 1 + 8;
 
 // With a length, or without: then it is the last frame of its payload.
-pub fn datagram(length: bool, data: &[u8], out: &mut [u8]) -> Wrote
-    ensures { λ r. ⌜ Written (datagramOut length (now («data» .entry))) (now (out .entry)) (wroteOf r) (now (out .exit)) ⌝ }
+pub fn datagram(with_len: bool, data: &[u8], out: &mut [u8]) -> Wrote
+    ensures { λ r. ⌜ Written (datagramOut «with_len» (now («data» .entry))) (now (out .entry)) (wroteOf r) (now (out .exit)) ⌝ }
 {
-    if length {
-        return row_out::frame_of(&[0x31, data.len() as u64], data, out);
+    if with_len {
+        return row_out::frame_of(&[types::DATAGRAM_LAST, data.len() as u64], data, out);
     }
-    row_out::frame_of(&[0x30], data, out)
+    row_out::frame_of(&[types::DATAGRAM_FIRST], data, out)
 }
 
-pub fn datagram_size(length: bool, data: &[u8]) -> Sized
-    ensures { λ r. ⌜ sizedOf r ≡ lengthOf (datagramOut length (now («data» .entry))) ⌝ }
+pub fn datagram_size(with_len: bool, data: &[u8]) -> Sized
+    ensures { λ r. ⌜ sizedOf r ≡ lengthOf (datagramOut «with_len» (now («data» .entry))) ⌝ }
 {
-    if length {
-        return row_out::frame_size(&[0x31, data.len() as u64], data);
+    if with_len {
+        return row_out::frame_size(&[types::DATAGRAM_LAST, data.len() as u64], data);
     }
-    row_out::frame_size(&[0x30], data)
+    row_out::frame_size(&[types::DATAGRAM_FIRST], data)
 }
 
 pub fn ack_frequency(frame: AckFrequency, out: &mut [u8]) -> Wrote

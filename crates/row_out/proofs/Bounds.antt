@@ -7,26 +7,26 @@ use lib.ListN.{length, length-append}
 use Rattle.coding.specs.Varint.{varBytes}
 use Rattle.coding.proofs.Laws.{length-bytesBE, length-var, size-le}
 use Rattle.frame.specs.Format.{Value, Field, var, orNone, atMost, bytes, rest, fixed, num64, cid, ackBlocks, const, absent}
-use Rattle.row_out.specs.Writing.{Word, numberIn, rawIn, roundsIn, fieldBytes, rowBytes}
-use Rattle.row_out.specs.Back.{Fits, valueAt, Writes, wordRead, wordsRead}
+use Rattle.row_out.specs.Writing.{Word, wordNumber, wordBytes, roundsIn, fieldBytes, rowBytes}
+use Rattle.row_out.specs.Back.{Fits, valueAt, WordsFit, wordRead, wordsRead}
 use Rattle.row_out.specs.Bounds.{fieldBound, fieldsBound, dataBytes, dataIn}
 
 field-bound : (f : Field) (w : Word) (seen : List Value) (q : List ℕ) → Fits f w seen q → length (fieldBytes f w) ≤ fieldBound f + dataBytes f w
 unfolding fieldBytes
-field-bound var w seen q h = omega (arith, length-var (numberIn w), size-le (numberIn w) h)
-field-bound orNone w seen q h = omega (arith, length-var (numberIn w), size-le (numberIn w) h)
-field-bound atMost w seen q h = omega (arith, length-var (numberIn w), size-le (numberIn w) (h .0))
-field-bound bytes w seen q h = omega (arith, length-append (varBytes (length (rawIn w))) (rawIn w), length-var (length (rawIn w)), size-le (length (rawIn w)) h)
+field-bound var w seen q h = omega (arith, length-var (wordNumber w), size-le (wordNumber w) h)
+field-bound orNone w seen q h = omega (arith, length-var (wordNumber w), size-le (wordNumber w) h)
+field-bound atMost w seen q h = omega (arith, length-var (wordNumber w), size-le (wordNumber w) (h .0))
+field-bound bytes w seen q h = omega (arith, length-append (varBytes (length (wordBytes w))) (wordBytes w), length-var (length (wordBytes w)), size-le (length (wordBytes w)) h)
 field-bound rest w seen q h = omega arith
 field-bound (fixed n) w seen q h = omega arith
-field-bound num64 w seen q h = omega (arith, length-bytesBE 8 (numberIn w))
+field-bound num64 w seen q h = rw length-bytesBE (omega arith)
 field-bound cid w seen q h = omega arith
 field-bound ackBlocks w seen q h =
-    omega (arith, length-append (varBytes (roundsIn (rawIn w))) (rawIn w), length-var (roundsIn (rawIn w)), size-le (roundsIn (rawIn w)) (h .0))
+    omega (arith, length-append (varBytes (roundsIn (wordBytes w))) (wordBytes w), length-var (roundsIn (wordBytes w)), size-le (roundsIn (wordBytes w)) (h .0))
 field-bound (const n) w seen q h = omega arith
 field-bound absent w seen q h = omega arith
 
-pub row-bound : (fs : List Field) (ws : List Word) (seen : List Value) (at : ℕ) (q : List ℕ) → Writes fs ws seen at q
+pub row-bound : (fs : List Field) (ws : List Word) (seen : List Value) (at : ℕ) (q : List ℕ) → WordsFit fs ws seen at q
     → length (rowBytes fs ws) ≤ fieldsBound fs + dataIn fs ws
 unfolding rowBytes
 row-bound [] [] seen at q h = omega arith

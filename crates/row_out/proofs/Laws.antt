@@ -1,4 +1,4 @@
--- Laws of the limits, and of integers one after the other. Assumes nothing.
+-- Laws of the limits, and of integers one after the other.
 use mathlib.Core.Path.{_≡_, refl, sym, ap, _∙_}
 use mathlib.Core.List.{List, [], _∷_, _++_, append-assoc, append-nil}
 use mathlib.Core.Bool.{Bool, true, false}

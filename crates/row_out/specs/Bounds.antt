@@ -5,7 +5,7 @@ use lib.ListN.{length}
 use Rattle.coding.specs.Varint.{varSize}
 use Rattle.frame.specs.Format.{Field, var, orNone, atMost, bytes, rest, fixed, num64, cid, ackBlocks, const, absent}
 use Rattle.frame.specs.Table.{Row, look}
-use Rattle.row_out.specs.Writing.{Word, rawIn, fieldsOf}
+use Rattle.row_out.specs.Writing.{Word, wordBytes, fieldsOf}
 
 -- the most bytes of a field: an integer has 8, and so has the length or the count of data; a connection id has 20, and its length byte
 abbrev pub fieldBound : Field → ℕ
@@ -34,12 +34,12 @@ abbrev pub dataBytes : Field → Word → ℕ
 dataBytes var w = 0
 dataBytes orNone w = 0
 dataBytes atMost w = 0
-dataBytes bytes w = length (rawIn w)
-dataBytes rest w = length (rawIn w)
+dataBytes bytes w = length (wordBytes w)
+dataBytes rest w = length (wordBytes w)
 dataBytes (fixed n) w = 0
 dataBytes num64 w = 0
 dataBytes cid w = 0
-dataBytes ackBlocks w = length (rawIn w)
+dataBytes ackBlocks w = length (wordBytes w)
 dataBytes (const n) w = 0
 dataBytes absent w = 0
 

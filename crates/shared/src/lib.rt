@@ -2,6 +2,7 @@
 mod cid; // cid.rt: connection ids
 mod codepoint; // codepoint.rt: explicit congestion notification
 mod kinds; // kinds.rt: stream ids, frame types, packet numbers
+pub mod types; // types.rt: the frame types' numbers, for a match
 
 pub use cid::CidAnswer;
 pub use cid::CidRead;
@@ -14,6 +15,7 @@ pub use kinds::CutNumber;
 pub use kinds::Dir;
 pub use kinds::FrameType;
 pub use kinds::FullNumber;
+pub use kinds::NUMBER_END;
 pub use kinds::Side;
 pub use kinds::StreamId;
 pub use kinds::StreamMade;

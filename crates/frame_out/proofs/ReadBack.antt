@@ -15,10 +15,10 @@ use Rattle.shared.specs.declared.cid.ConnectionId.{ConnectionId}
 use Rattle.shared.proofs.Laws.{length-cid}
 use Rattle.frame.specs.Format.{orNone, orNothing}
 use Rattle.frame.specs.Table.{flag, table}
-use Rattle.row_out.specs.Writing.{Word, number, raw, nothing, numberIn, fieldBytes, rowBytes, frameBytes}
+use Rattle.row_out.specs.Writing.{Word, number, raw, nothing, wordNumber, fieldBytes, rowBytes, frameBytes}
 use Rattle.row_out.specs.Back.{wordRead, ReadAs}
 use Rattle.row_out.proofs.Laws.{below-at}
-use Rattle.row_out.proofs.Trip.{read-as, out-read}
+use Rattle.row_out.proofs.ReadBack.{read-as, out-read}
 use Rattle.frame_out.specs.Frames.{streamType, streamWords, metaBytes, metaOut, cryptoOut, newTokenOut, resetStreamOut, stopSendingOut, newCidOut, datagramOut, ackFrequencyOut}
 use Rattle.frame_out.specs.Closes.{connection, application, fixedFields, closeWith, closeOut}
 use Rattle.frame_out.proofs.Vals.{crypto-vals, token-vals, reset-vals, stop-vals, frequency-vals, datagram-vals, connection-vals, application-vals, typeBy, meta-seen, cid-frame, cid-vals, cid-seen}
@@ -94,7 +94,7 @@ module _ (p bs q : List ℕ) where
   unfolding closeWith table
   connection-read code ty reason max e =
       let d : List ℕ = take (max - fixedFields (connection code ty) (length reason)) reason in
-      let ys : List ℕ = 0x1c ∷ code ∷ numberIn ty ∷ length d ∷ [] in
+      let ys : List ℕ = 0x1c ∷ code ∷ wordNumber ty ∷ length d ∷ [] in
       out-read table 0x1c _ _ ys d bs p q (connection-vals code ty d) (close-seen (connection code ty) reason max bs e .frame) refl (omega arith)
       (λ b. (below-at ys 1 b (omega arith), (below-at ys 2 b (omega arith), (below-at ys 3 b (omega arith), tt))))
 
