@@ -1,4 +1,4 @@
--- Laws of the scan. Assumes nothing.
+-- Laws of the scan.
 use mathlib.Core.Path.{_≡_, refl, sym, ap}
 use mathlib.Core.List.{List}
 use mathlib.Core.Bool.{Bool, true, false}
@@ -15,7 +15,12 @@ use Rattle.coding.specs.declared.VarRead.{VarRead}
 use Rattle.coding.specs.declared.VarRead.the-variants as var
 use Rattle.coding.proofs.Laws.{Octets, var-below, var-inside}
 use Rattle.coding.proofs.Rules.{if-all, then-all}
+use Rattle.coding.specs.Refusals.{numberOf}
+use Rattle.coding.specs.declared.refusal.Refusal.{Refusal}
 use Rattle.ack.specs.Scan.{rounds, scanAt, scanned}
+use Rattle.ack.specs.Said.{roundThen}
+use Rattle.ack.specs.declared.Round.{Round}
+use Rattle.ack.specs.declared.Round.the-variants as round
 
 -- an integer that was read is below 2^62
 pub var-small : (s : List ℕ) (at : ℕ) (r : VarRead) (v : VarInt) (n : ℕ) → Octets s → varOf r ≡ varAt s at → r ≡ var.Var v n → v .0 < 2 ^ 62
@@ -27,24 +32,57 @@ pub var-past : (s : List ℕ) (at : ℕ) (r : VarRead) (v : VarInt) (n : ℕ) �
 unfolding varOf
 var-past s at r v n p q = var-inside s at (v .0) n (sym (rw q at p))
 
--- one round, and what follows it
-abbrev pub round : List ℕ → ℕ → ℕ → ℕ → Answer ℕ
-round s n at smallest =
-    andThen (varAt s at) (no 10) (λ gap mid.
-    if ltb smallest (gap + 2) then no 12 else
-    andThen (varAt s mid) (no 10) (λ block past.
-    if ltb (smallest - (gap + 2)) block then no 12 else
-    rounds s n past (smallest - (gap + 2) - block)))
-
 pub none : (s : List ℕ) (n at smallest : ℕ) → n ≤ 0 → rounds s n at smallest ≡ ok at
 unfolding rounds
 none s zero at smallest h = refl
 none s (suc n) at smallest h = absurd (omega arith)
 
-pub one : (s : List ℕ) (n at smallest : ℕ) → 0 < n → rounds s n at smallest ≡ round s (n - 1) at smallest
-unfolding rounds
-one s zero at smallest h = absurd (omega arith)
-one s (suc n) at smallest h = let e : n ≡ suc n - 1 = omega arith in ap (λ (m : ℕ). round s m at smallest) e
+-- ---- what a scan that was not refused has read
+
+pub record Went (m : Got ℕ) (f : ℕ → ℕ → Answer ℕ) (e : ℕ) : Type 0 where
+  pub value : ℕ
+  pub next : ℕ
+  pub read : m ≡ got value next
+  pub more : f value next ≡ ok e
+
+pub then-ok : (m : Got ℕ) (k : ℕ) (f : ℕ → ℕ → Answer ℕ) (e : ℕ) → andThen m (no k) f ≡ ok e → Went m f e
+unfolding andThen
+then-ok cut k f e h = let z : _≡_ {A = ℕ} 0 1 = cc in absurd (omega arith)
+then-ok (got v n) k f e h = record { value = v; next = n; read = refl; more = h }
+
+pub if-ok : (a b k : ℕ) (x : Answer ℕ) (e : ℕ) → (if ltb a b then no k else x) ≡ ok e → (b ≤ a) × (x ≡ ok e)
+unfolding if_then_else_
+if-ok a b k x e = go (ltb a b) refl
+  where
+    go : (t : Bool) → ltb a b ≡ t → (if t then no k else x) ≡ ok e → (b ≤ a) × (x ≡ ok e)
+    go true q h = let z : _≡_ {A = ℕ} 0 1 = cc in absurd (omega arith)
+    go false q h = (ltb-false _ _ q, h)
+
+-- ---- a round that was read, and those after it
+
+module _ (s : List ℕ) (at smallest : ℕ) (r : Round) (e : (n : ℕ) → roundThen r (rounds s n) ≡ rounds s (suc n) at smallest) where
+  pub round-on : (low next n : ℕ) → r ≡ round.To low next → 0 < n → rounds s (n - 1) next low ≡ rounds s n at smallest
+  unfolding roundThen
+  round-on low next zero q h = absurd (omega arith)
+  round-on low next (suc n) q h = let i : suc n - 1 ≡ n = omega arith in rw i (rw q at (e n))
+
+  pub round-no : (why : Refusal) (n : ℕ) → r ≡ round.Refused why → 0 < n → no (numberOf why) ≡ rounds s n at smallest
+  unfolding roundThen
+  round-no why zero q h = absurd (omega arith)
+  round-no why (suc n) q h = rw q at (e n)
+
+  -- it ends past its start and inside
+  pub round-past : (low next : ℕ) → r ≡ round.To low next → (at < next) × (next ≤ length s)
+  unfolding roundThen rounds
+  round-past low next q =
+      let a = then-ok (varAt s at) 10 _ next (sym (rw q at (e 0))) in
+      let b = if-ok smallest (a .value + 2) 12 _ next (a .more) in
+      let c = then-ok (varAt s (a .next)) 10 _ next (b .1) in
+      let d = if-ok (smallest - (a .value + 2)) (c .value) 12 _ next (c .more) in
+      let l : c .next ≡ next = cc in
+      let i = var-inside s at (a .value) (a .next) (a .read) in
+      let j = var-inside s (a .next) (c .value) (c .next) (c .read) in
+      (omega arith, omega arith)
 
 -- within the arguments' rule nothing is refused 14
 pub in-rule : (s : List ℕ) (at largest n : ℕ) → length s ≤ 65527 → largest < 2 ^ 62 → n < 2 ^ 62 → scanned s at largest n ≡ scanAt s at largest n
@@ -76,24 +114,3 @@ scan-inside s at largest n =
     if-all (Inside s at) (ltb largest first) _ _ (λ _. tt) (λ _.
     let i = var-inside s at first after e in
     rounds-inside s at n after (largest - first) (omega arith) (omega arith)))
-
--- ---- what a scan that was not refused has read
-
-pub record Went (m : Got ℕ) (f : ℕ → ℕ → Answer ℕ) (e : ℕ) : Type 0 where
-  pub value : ℕ
-  pub next : ℕ
-  pub read : m ≡ got value next
-  pub more : f value next ≡ ok e
-
-pub then-ok : (m : Got ℕ) (k : ℕ) (f : ℕ → ℕ → Answer ℕ) (e : ℕ) → andThen m (no k) f ≡ ok e → Went m f e
-unfolding andThen
-then-ok cut k f e h = let z : _≡_ {A = ℕ} 0 1 = cc in absurd (omega arith)
-then-ok (got v n) k f e h = record { value = v; next = n; read = refl; more = h }
-
-pub if-ok : (a b k : ℕ) (x : Answer ℕ) (e : ℕ) → (if ltb a b then no k else x) ≡ ok e → (b ≤ a) × (x ≡ ok e)
-unfolding if_then_else_
-if-ok a b k x e = go (ltb a b) refl
-  where
-    go : (t : Bool) → ltb a b ≡ t → (if t then no k else x) ≡ ok e → (b ≤ a) × (x ≡ ok e)
-    go true q h = let z : _≡_ {A = ℕ} 0 1 = cc in absurd (omega arith)
-    go false q h = (ltb-false _ _ q, h)

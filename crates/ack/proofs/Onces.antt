@@ -1,4 +1,4 @@
--- Only one answer meets the contract of each public function. Assumes nothing.
+-- Only one answer meets the contract of each public function.
 use Rattle.coding.specs.Once.{Once}
 use Rattle.ack.proofs.Inverse.{scanned-one, taken-one}
 use Rattle.ack.proofs.scan_ack_blocks as scan-ack-blocks

@@ -5,6 +5,8 @@ use Rattle.coding.specs.Refusals.{numberOf}
 use Rattle.ack.specs.Step.{Step, range, end, refused, Taken}
 use Rattle.ack.specs.declared.Scanned.{Scanned}
 use Rattle.ack.specs.declared.Scanned.the-variants as scanned
+use Rattle.ack.specs.declared.Round.{Round}
+use Rattle.ack.specs.declared.Round.the-variants as round
 use Rattle.ack.specs.declared.AckStep.{AckStep}
 use Rattle.ack.specs.declared.AckStep.the-variants as ack
 use Rattle.ack.specs.declared.AckTaken.{AckTaken}
@@ -12,6 +14,11 @@ use Rattle.ack.specs.declared.AckTaken.{AckTaken}
 unfoldable pub scannedOf : Scanned → Answer ℕ
 scannedOf (scanned.To n) = ok n
 scannedOf (scanned.Refused why) = no (numberOf why)
+
+-- a round, and what follows it from its place and below its smallest number
+unfoldable pub roundThen : Round → (ℕ → ℕ → Answer ℕ) → Answer ℕ
+roundThen (round.To smallest next) more = more next smallest
+roundThen (round.Refused why) more = no (numberOf why)
 
 unfoldable pub stepOf : AckStep → Step
 stepOf (ack.Range smallest largest) = range (record { smallest = smallest .0; largest = largest .0 })

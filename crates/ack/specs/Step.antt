@@ -20,21 +20,21 @@ pub record Taken : Type 0 where
   pub next : ℕ
 
 -- a refused step leaves the reader as it was
-unfoldable pub refuse : ℕ → ℕ → ℕ → Taken
-refuse number at largest = record { step = refused number; largest = largest; next = at }
+unfoldable pub unmoved : ℕ → ℕ → ℕ → Taken
+unmoved number at largest = record { step = refused number; largest = largest; next = at }
 
 -- a block and, if bytes are left, the gap after it and a byte of the next block; the scan's order
 unfoldable pub ackStep : List ℕ → ℕ → ℕ → Taken
 ackStep s at largest =
-    if ltb 65527 (length s) then refuse 14 at largest else
-    if leb (2 ^ 62) largest then refuse 14 at largest else
+    if ltb 65527 (length s) then unmoved 14 at largest else
+    if leb (2 ^ 62) largest then unmoved 14 at largest else
     if leb (length s) at then record { step = end; largest = largest; next = at } else
-    andThen (varAt s at) (refuse 10 at largest) (λ block mid.
-    if ltb largest block then refuse 12 at largest else
+    andThen (varAt s at) (unmoved 10 at largest) (λ block mid.
+    if ltb largest block then unmoved 12 at largest else
     if leb (length s) mid then record { step = range (record { smallest = largest - block; largest = largest }); largest = largest; next = mid } else
-    andThen (varAt s mid) (refuse 10 at largest) (λ gap next.
-    if ltb (largest - block) (gap + 2) then refuse 12 at largest else
-    if leb (length s) next then refuse 10 at largest else
+    andThen (varAt s mid) (unmoved 10 at largest) (λ gap next.
+    if ltb (largest - block) (gap + 2) then unmoved 12 at largest else
+    if leb (length s) next then unmoved 10 at largest else
     record { step = range (record { smallest = largest - block; largest = largest }); largest = largest - block - (gap + 2); next = next }))
 
 -- after the end and after a refusal there is nothing more

@@ -4,15 +4,23 @@ use coding::MAX_DATAGRAM;
 use coding::Refusal;
 use coding::VarRead;
 use shared::FullNumber;
+use shared::NUMBER_END;
 ghost use mathlib.Core.Path.{_≡_};
+ghost use Prim.Native.Nat.{ℕ, suc};
 ghost use Rattle.coding.specs.Refusals.{numberOf};
 ghost use Rattle.ack.specs.Scan.{rounds, scanned};
-ghost use Rattle.ack.specs.Step.{refuse, ackStep};
-ghost use Rattle.ack.specs.Said.{scannedOf, takenOf};
+ghost use Rattle.ack.specs.Step.{unmoved, ackStep};
+ghost use Rattle.ack.specs.Said.{scannedOf, roundThen, takenOf};
 
 // The place past the blocks, or a refusal.
 pub enum Scanned {
     To(usize),
+    Refused(Refusal),
+}
+
+// A round's smallest number and the place past it, or a refusal.
+enum Round {
+    To(u64, usize),
     Refused(Refusal),
 }
 
@@ -30,7 +38,27 @@ pub struct AckTaken {
     pub next: usize,
 }
 
-// n rounds of gap and block below low.
+// A gap and a block below smallest.
+fn scan_round(s: &[u8], at: usize, smallest: u64) -> Round
+    ensures { λ r. ⌜ ((n : ℕ) → roundThen r (rounds (now (s .entry)) n) ≡ rounds (now (s .entry)) (suc n) at smallest) ⌝ }
+{
+    let VarRead::Var(gap, mid) = coding::get_var(s, at) else {
+        return Round::Refused(Refusal::UnexpectedEnd); // the bytes end the scan, whatever the count
+    };
+    if smallest < gap.0 + 2 {
+        return Round::Refused(Refusal::Malformed);
+    }
+    let largest = smallest - (gap.0 + 2);
+    let VarRead::Var(block, past) = coding::get_var(s, mid) else {
+        return Round::Refused(Refusal::UnexpectedEnd);
+    };
+    if largest < block.0 {
+        return Round::Refused(Refusal::Malformed);
+    }
+    Round::To(largest - block.0, past)
+}
+
+// n rounds below low.
 fn scan_rounds(s: &[u8], at: usize, low: u64, n: u64) -> Scanned
     ensures { λ r. ⌜ scannedOf r ≡ rounds (now (s .entry)) n at low ⌝ }
 {
@@ -38,21 +66,14 @@ fn scan_rounds(s: &[u8], at: usize, low: u64, n: u64) -> Scanned
     let mut p = at;
     let mut left = n;
     while 0 < left {
-        let VarRead::Var(gap, mid) = coding::get_var(s, p) else {
-            return Scanned::Refused(Refusal::UnexpectedEnd);
-        };
-        if smallest < gap.0 + 2 {
-            return Scanned::Refused(Refusal::Malformed);
+        let turn = scan_round(s, p, smallest);
+        match turn {
+            Round::Refused(why) => return Scanned::Refused(why),
+            Round::To(low, past) => {
+                smallest = low;
+                p = past;
+            }
         }
-        smallest = smallest - (gap.0 + 2);
-        let VarRead::Var(block, past) = coding::get_var(s, mid) else {
-            return Scanned::Refused(Refusal::UnexpectedEnd);
-        };
-        if smallest < block.0 {
-            return Scanned::Refused(Refusal::Malformed);
-        }
-        smallest = smallest - block.0;
-        p = past;
         left = left - 1;
     }
     Scanned::To(p)
@@ -65,10 +86,10 @@ pub fn scan_ack_blocks(s: &[u8], at: usize, largest: FullNumber, n: u64) -> Scan
     if MAX_DATAGRAM < s.len() {
         return Scanned::Refused(Refusal::Argument);
     }
-    if 0x4000_0000_0000_0000 <= largest.0 {
+    if NUMBER_END <= largest.0 {
         return Scanned::Refused(Refusal::Argument);
     }
-    if 0x4000_0000_0000_0000 <= n {
+    if NUMBER_END <= n {
         return Scanned::Refused(Refusal::Argument);
     }
     let VarRead::Var(first, after) = coding::get_var(s, at) else {
@@ -82,7 +103,7 @@ pub fn scan_ack_blocks(s: &[u8], at: usize, largest: FullNumber, n: u64) -> Scan
 
 // A refused step leaves the reader as it was.
 fn refused(why: Refusal, at: usize, largest: FullNumber) -> AckTaken
-    ensures { λ r. ⌜ takenOf r ≡ refuse (numberOf why) at (largest .0) ⌝ }
+    ensures { λ r. ⌜ takenOf r ≡ unmoved (numberOf why) at (largest .0) ⌝ }
 {
     AckTaken {
         answer: AckStep::Refused(why),
@@ -98,7 +119,7 @@ pub fn ack_step(s: &[u8], at: usize, largest: FullNumber) -> AckTaken
     if MAX_DATAGRAM < s.len() {
         return refused(Refusal::Argument, at, largest);
     }
-    if 0x4000_0000_0000_0000 <= largest.0 {
+    if NUMBER_END <= largest.0 {
         return refused(Refusal::Argument, at, largest);
     }
     if s.len() <= at {

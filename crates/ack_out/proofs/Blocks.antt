@@ -1,4 +1,4 @@
--- The blocks that are written are scanned whole, and the ranges that the scan passes are those that were written. Assumes nothing.
+-- The blocks that are written are scanned whole, and the ranges that the scan passes are those that were written.
 use mathlib.Core.Path.{_≡_, refl, ap, _∙_}
 use mathlib.Core.List.{List, [], _∷_, _++_, append-assoc}
 use Prim.Native.Nat.{ℕ, suc, _+_, _-_, _≤_, _<_, _^_}

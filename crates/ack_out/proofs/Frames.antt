@@ -1,4 +1,4 @@
--- The frame's bytes, its size and its refusals. Assumes nothing.
+-- The frame's bytes, its size and its refusals.
 use mathlib.Core.Path.{_≡_, refl, sym, ap, _∙_}
 use mathlib.Core.List.{List, [], _∷_, _++_, append-assoc, append-nil}
 use mathlib.Core.Bool.{Bool, true, false}
@@ -19,11 +19,11 @@ use Rattle.coding.specs.declared.varint.Sized.{Sized}
 use Rattle.coding.specs.declared.varint.Sized.the-variants as sized
 use Rattle.frame.specs.Table.{table}
 use Rattle.row_out.specs.Writing.{number, nothing, roundsIn, fieldBytes, rowBytes, frameBytes}
-use Rattle.row_out.specs.Limits.{below62, inFrame, limited, numbersIn, frameOut, varsBytes, varsOut}
+use Rattle.row_out.specs.Limits.{below62, inFrame, limited, wordNumbers, frameOut, varsBytes, varsOut}
 use Rattle.row_out.proofs.Laws.{below-cons, cons-below, limited-ok, limited-past, limited-long, Held, out-ok}
-use Rattle.row_out.proofs.Rounds.{rounds-vars}
+use Rattle.row_out.proofs.RoundCount.{rounds-vars}
 use Rattle.ack.specs.Scan.{Range}
-use Rattle.ack_out.specs.Acks.{isRanges, rangeAt, rangesOf, ranges, largestOf, blockNumbers, blockBytes, countsOf, typeOf, ecnWords, ackWords, ackOut, headOf}
+use Rattle.ack_out.specs.Acks.{isRanges, rangeAt, rangesOf, allRanges, largestOf, blockNumbers, blockBytes, countsOf, ackTypeOf, ecnWords, ackWords, ackOut, headOf}
 use Rattle.ack_out.proofs.Lists.{at, Kept, kept, blocks-of, stepped, steps}
 
 -- ---- the blocks' numbers
@@ -54,10 +54,10 @@ ranges-length l (suc n) = ap suc (ranges-length l n)
 
 -- what the list's rule says of its ranges
 pub record Ranged (l : List ℕ) : Type 0 where
-  pub count : length (ranges l) ≡ length l / 2
-  pub largest : largestOf (ranges l) ≡ at l (length l - 1) - 1
-  pub numbers : length (blockNumbers (ranges l)) ≡ length l - 1
-  pub below : below62 (blockNumbers (ranges l)) ≡ true
+  pub count : length (allRanges l) ≡ length l / 2
+  pub largest : largestOf (allRanges l) ≡ at l (length l - 1) - 1
+  pub numbers : length (blockNumbers (allRanges l)) ≡ length l - 1
+  pub below : below62 (blockNumbers (allRanges l)) ≡ true
 
 pub ranged : (l : List ℕ) → Kept l → Ranged l
 unfolding largestOf rangeAt
@@ -74,14 +74,14 @@ ranged l k =
 
 -- ---- the frame's bytes: the integers before the blocks, the blocks, the counts
 
-numbers-of : (delay : ℕ) (rs : List Range) (ecn : Option (ℕ × (ℕ × ℕ))) → numbersIn (ackWords delay rs ecn) ≡ largestOf rs ∷ delay ∷ countsOf ecn
-unfolding numbersIn ackWords ecnWords countsOf
+numbers-of : (delay : ℕ) (rs : List Range) (ecn : Option (ℕ × (ℕ × ℕ))) → wordNumbers (ackWords delay rs ecn) ≡ largestOf rs ∷ delay ∷ countsOf ecn
+unfolding wordNumbers ackWords ecnWords countsOf
 numbers-of delay rs none = refl
 numbers-of delay rs (some c) = refl
 
 bytes-of : (delay : ℕ) (rs : List Range) (ecn : Option (ℕ × (ℕ × ℕ))) → roundsIn (blockBytes rs) ≡ length rs - 1
-    → frameBytes table (typeOf ecn) (ackWords delay rs ecn) ≡ varsBytes (headOf delay rs ecn) ++ (blockBytes rs ++ varsBytes (countsOf ecn))
-unfolding frameBytes table rowBytes fieldBytes ackWords ecnWords countsOf typeOf varsBytes
+    → frameBytes table (ackTypeOf ecn) (ackWords delay rs ecn) ≡ varsBytes (headOf delay rs ecn) ++ (blockBytes rs ++ varsBytes (countsOf ecn))
+unfolding frameBytes table rowBytes fieldBytes ackWords ecnWords countsOf ackTypeOf varsBytes
 bytes-of delay rs none e = rw e (simp (append-assoc, append-nil))
 bytes-of delay rs (some c) e = rw e (simp (append-assoc, append-nil))
 
@@ -121,13 +121,13 @@ part-no xs given whole up l e = go (below62 given) (leb (length whole) 65527) re
 
 module _ (delay : ℕ) (l : List ℕ) (ecn : Option (ℕ × (ℕ × ℕ))) where
   abbrev pub head : List ℕ
-  head = headOf delay (ranges l) ecn
+  head = headOf delay (allRanges l) ecn
 
   abbrev pub counts : List ℕ
   counts = countsOf ecn
 
   abbrev pub blocks : List ℕ
-  blocks = blockBytes (ranges l)
+  blocks = blockBytes (allRanges l)
 
   abbrev pub whole : List ℕ
   whole = varsBytes head ++ (blocks ++ varsBytes counts)
@@ -136,7 +136,7 @@ module _ (delay : ℕ) (l : List ℕ) (ecn : Option (ℕ × (ℕ × ℕ))) where
   length-whole = simp length-append (omega arith)
 
   abbrev pub given : List ℕ
-  given = largestOf (ranges l) ∷ delay ∷ counts
+  given = largestOf (allRanges l) ∷ delay ∷ counts
 
   pub not-ranges : isRanges l ≡ false → ackOut delay l ecn ≡ no 14
   unfolding ackOut if_then_else_
@@ -146,24 +146,24 @@ module _ (delay : ℕ) (l : List ℕ) (ecn : Option (ℕ × (ℕ × ℕ))) where
     abbrev held : Ranged l
     held = ranged l (kept l r)
 
-    pub rounds : roundsIn blocks ≡ length (ranges l) - 1
+    pub rounds : roundsIn blocks ≡ length (allRanges l) - 1
     rounds =
         let k = kept l r in
         let e : (length l - 1 - 1) / 2 ≡ length l / 2 - 1 = omega (arith, k .even, k .some) in
         rounds-vars _ (held .below) ∙ rw (held .numbers, held .count) e
 
-    pub whole-is : frameBytes table (typeOf ecn) (ackWords delay (ranges l) ecn) ≡ whole
-    whole-is = bytes-of delay (ranges l) ecn rounds
+    pub whole-is : frameBytes table (ackTypeOf ecn) (ackWords delay (allRanges l) ecn) ≡ whole
+    whole-is = bytes-of delay (allRanges l) ecn rounds
 
     pub is-limited : ackOut delay l ecn ≡ limited given whole
     unfolding ackOut frameOut if_then_else_
-    is-limited = rw (r, numbers-of delay (ranges l) ecn, whole-is)
+    is-limited = rw (r, numbers-of delay (allRanges l) ecn, whole-is)
 
     -- each number of the list has a byte or more
     many : length l + 3 ≤ length whole
     many =
         let a = vars-least head in
-        let b = vars-least (blockNumbers (ranges l)) in
+        let b = vars-least (blockNumbers (allRanges l)) in
         omega (arith, length-whole, held .numbers, kept l r .some)
 
     pub few : length whole ≤ 65527 → length l ≤ 65527
@@ -172,11 +172,11 @@ module _ (delay : ℕ) (l : List ℕ) (ecn : Option (ℕ × (ℕ × ℕ))) where
     pub many-no : 65527 < length l → ackOut delay l ecn ≡ no 14
     many-no h = is-limited ∙ limited-long given whole (omega (arith, many))
 
-    type-small : typeOf ecn < 2 ^ 62
-    unfolding typeOf
+    type-small : ackTypeOf ecn < 2 ^ 62
+    unfolding ackTypeOf
     type-small = go ecn
       where
-        go : (e : Option (ℕ × (ℕ × ℕ))) → typeOf e < 2 ^ 62
+        go : (e : Option (ℕ × (ℕ × ℕ))) → ackTypeOf e < 2 ^ 62
         go none = omega arith
         go (some c) = omega arith
 
@@ -185,7 +185,7 @@ module _ (delay : ℕ) (l : List ℕ) (ecn : Option (ℕ × (ℕ × ℕ))) where
     all-below h b =
         let x = below-cons _ _ b in
         let y = below-cons _ _ (x .1) in
-        let n : length (ranges l) - 1 < 2 ^ 62 = omega (arith, held .count) in
+        let n : length (allRanges l) - 1 < 2 ^ 62 = omega (arith, held .count) in
         (cons-below _ _ type-small (cons-below _ _ (x .0) (cons-below _ _ (y .0) (cons-below _ _ n none-below))), y .1)
 
     given-below : below62 head ≡ true → below62 counts ≡ true → below62 given ≡ true

@@ -1,4 +1,4 @@
--- What the list's rule gives, and the blocks as the differences of neighbours in the list. Assumes nothing.
+-- What the list's rule gives, and the blocks as the differences of neighbours in the list.
 use mathlib.Core.Path.{_≡_, refl}
 use mathlib.Core.List.{List, [], _∷_, _++_}
 use mathlib.Core.Bool.{Bool, true, false}
@@ -11,7 +11,7 @@ use borrow.Author.Tests.{ltb-false, leb-false, eqb-false, le-leb, lt-leb}
 use Rattle.coding.specs.Words.{if_then_else_}
 use Rattle.coding.specs.Varint.{varBytes}
 use Rattle.row_out.specs.Limits.{varsBytes}
-use Rattle.ack_out.specs.Acks.{ascends, isRanges, rangeAt, rangesOf, ranges, roundNumbers, blockNumbers}
+use Rattle.ack_out.specs.Acks.{ascends, isRanges, rangeAt, rangesOf, allRanges, roundNumbers, blockNumbers}
 use Rattle.ack_out.proofs.Blocks.{Below}
 
 abbrev pub at : List ℕ → ℕ → ℕ
@@ -93,8 +93,8 @@ steps-rounds l (suc n) u h =
 -- and so the blocks are the differences from the last number down
 pub record Blocks (l : List ℕ) (n : ℕ) : Type 0 where
   pub pair : length l ≡ 2 * suc n
-  pub ranged : ranges l ≡ rangeAt l n ∷ rangesOf l n
-  pub numbers : blockNumbers (ranges l) ≡ steps l (length l - 1)
+  pub ranged : allRanges l ≡ rangeAt l n ∷ rangesOf l n
+  pub numbers : blockNumbers (allRanges l) ≡ steps l (length l - 1)
 
 pub blocks-of : (l : List ℕ) (n : ℕ) → Kept l → length l / 2 ≡ suc n → Blocks l n
 unfolding rangesOf blockNumbers rangeAt

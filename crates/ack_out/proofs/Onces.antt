@@ -1,4 +1,4 @@
--- Only one answer, and only one content of the lent buffer, meets the encoder's contract. Assumes nothing.
+-- Only one answer, and only one content of the lent buffer, meets the encoder's contract.
 use mathlib.Core.List.{List}
 use Prim.Native.Nat.{ℕ}
 use denote.Ref.{now}

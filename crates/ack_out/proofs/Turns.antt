@@ -1,4 +1,4 @@
--- What one turn of the loops over the blocks does. Assumes nothing.
+-- What one turn of the loops over the blocks does.
 use mathlib.Core.Path.{_≡_, sym, ap, _∙_}
 use mathlib.Core.List.{List, [], _++_, append-assoc, append-nil}
 use Prim.Native.Nat.{ℕ, _+_, _-_, _*_, _/_, _≤_, _<_, _^_}
@@ -9,11 +9,11 @@ use Rattle.coding.specs.Writing.{Put}
 use Rattle.coding.proofs.Laws.{length-var, length-splice, size-le, put-some}
 use Rattle.coding.proofs.Writes.{So, so-none, so-put, put-fits}
 use Rattle.row_out.specs.Limits.{varsBytes}
-use Rattle.ack_out.specs.Acks.{ranges, blockBytes}
+use Rattle.ack_out.specs.Acks.{allRanges, blockBytes}
 use Rattle.ack_out.proofs.Lists.{at, Kept, blocks-of, stepBytes, bytes-one, bytes-none}
 
 -- the blocks are the differences from the last number down
-pub blocks-steps : (l : List ℕ) → Kept l → blockBytes (ranges l) ≡ stepBytes l (length l - 1)
+pub blocks-steps : (l : List ℕ) → Kept l → blockBytes (allRanges l) ≡ stepBytes l (length l - 1)
 blocks-steps l k = ap varsBytes (blocks-of l (length l / 2 - 1) k (omega arith) .numbers)
 
 -- number i's difference is x
@@ -24,7 +24,7 @@ Is l i x = (x ≡ at l i - at l (i - 1) - 1) × (x < 2 ^ 62)
 
 pub record Summed (l : List ℕ) (len i : ℕ) : Type 0 where
   pub inside : i < length l
-  pub sum : len + length (stepBytes l i) ≡ length (blockBytes (ranges l))
+  pub sum : len + length (stepBytes l i) ≡ length (blockBytes (allRanges l))
   pub few : len + 8 * i ≤ 8 * length l
 
 module _ (l : List ℕ) where
@@ -37,7 +37,7 @@ module _ (l : List ℕ) where
       ap length (bytes-one l i x h (d .0)) ∙ simp (length-append, length-var) in
       record { inside = omega (arith, s .inside); sum = omega (arith, s .sum); few = omega (arith, s .few, size-le x (d .1)) }
 
-  pub sum-end : (len i : ℕ) → Summed l len i → i ≤ 0 → len ≡ length (blockBytes (ranges l))
+  pub sum-end : (len i : ℕ) → Summed l len i → i ≤ 0 → len ≡ length (blockBytes (allRanges l))
   sum-end len i s h =
       let b : length (stepBytes l i) ≡ 0 = ap length (bytes-none l i h) in
       omega (arith, s .sum)
@@ -47,25 +47,25 @@ module _ (l : List ℕ) where
 pub record Puts (l old : List ℕ) (at : ℕ) (new : List ℕ) (next i : ℕ) : Type 0 where
   pub inside : i < length l
   pub done : List ℕ
-  pub all : done ++ stepBytes l i ≡ blockBytes (ranges l)
+  pub all : done ++ stepBytes l i ≡ blockBytes (allRanges l)
   pub so : So old at done next new
 
 module _ (l old : List ℕ) (at : ℕ) where
   pub puts-start : Kept l → Puts l old at old at (length l - 1)
   puts-start k = record { inside = omega (arith, k .some); done = []; all = sym (blocks-steps l k); so = so-none old at }
 
-  module _ (new : List ℕ) (next i : ℕ) (s : Puts l old at new next i) (room : at + length (blockBytes (ranges l)) ≤ length old) where
+  module _ (new : List ℕ) (next i : ℕ) (s : Puts l old at new next i) (room : at + length (blockBytes (allRanges l)) ≤ length old) where
     pub puts-length : length new ≡ length old
     puts-length =
-        let e : length (s .done ++ stepBytes l i) ≡ length (blockBytes (ranges l)) = ap length (s .all) in
+        let e : length (s .done ++ stepBytes l i) ≡ length (blockBytes (allRanges l)) = ap length (s .all) in
         let f : length (s .done ++ stepBytes l i) ≡ length (s .done) + length (stepBytes l i) = length-append (s .done) (stepBytes l i) in
         rw (s .so .bytes) (length-splice old (s .done) at (omega arith))
 
     pub puts-on : (x past : ℕ) (new' : List ℕ) → 0 < i → Is l i x → Put (varPut x) new next past new' → Puts l old at new' past (i - 1)
     puts-on x past new' h d p =
-        let e : s .done ++ (varBytes x ++ stepBytes l (i - 1)) ≡ blockBytes (ranges l) = rw (← bytes-one l i x h (d .0)) (s .all) in
-        let f : (s .done ++ varBytes x) ++ stepBytes l (i - 1) ≡ blockBytes (ranges l) = rw append-assoc e in
-        let g : length (s .done) + (length (varBytes x) + length (stepBytes l (i - 1))) ≡ length (blockBytes (ranges l)) =
+        let e : s .done ++ (varBytes x ++ stepBytes l (i - 1)) ≡ blockBytes (allRanges l) = rw (← bytes-one l i x h (d .0)) (s .all) in
+        let f : (s .done ++ varBytes x) ++ stepBytes l (i - 1) ≡ blockBytes (allRanges l) = rw append-assoc e in
+        let g : length (s .done) + (length (varBytes x) + length (stepBytes l (i - 1))) ≡ length (blockBytes (allRanges l)) =
         simp (length-append) at (ap length e) in
         record {
           inside = omega (arith, s .inside);
@@ -74,7 +74,7 @@ module _ (l old : List ℕ) (at : ℕ) where
           so = so-put (s .so) (omega arith) (rw (put-some x (d .1)) at p);
         }
 
-    pub puts-end : i ≤ 0 → Put (blockBytes (ranges l)) old at next new
+    pub puts-end : i ≤ 0 → Put (blockBytes (allRanges l)) old at next new
     puts-end h =
-        let e : s .done ≡ blockBytes (ranges l) = rw (bytes-none l i h, append-nil) at (s .all) in
+        let e : s .done ≡ blockBytes (allRanges l) = rw (bytes-none l i h, append-nil) at (s .all) in
         put-fits _ _ _ room (rw e at (s .so))

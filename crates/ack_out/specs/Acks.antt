@@ -36,8 +36,8 @@ unfoldable pub rangesOf : List ℕ → ℕ → List Range
 rangesOf l zero = []
 rangesOf l (suc n) = rangeAt l n ∷ rangesOf l n
 
-abbrev pub ranges : List ℕ → List Range
-ranges l = rangesOf l (length l / 2)
+abbrev pub allRanges : List ℕ → List Range
+allRanges l = rangesOf l (length l / 2)
 
 -- ---- 19.3: the fields, of ranges largest first
 
@@ -64,9 +64,9 @@ countsOf none = []
 countsOf (some (ect0, (ect1, ce))) = ect0 ∷ ect1 ∷ ce ∷ []
 
 -- type 03 has them, type 02 has none
-unfoldable pub typeOf : Option (ℕ × (ℕ × ℕ)) → ℕ
-typeOf none = 0x02
-typeOf (some counts) = 0x03
+unfoldable pub ackTypeOf : Option (ℕ × (ℕ × ℕ)) → ℕ
+ackTypeOf none = 0x02
+ackTypeOf (some counts) = 0x03
 
 unfoldable pub ecnWords : Option (ℕ × (ℕ × ℕ)) → List Word
 ecnWords none = nothing ∷ []
@@ -78,8 +78,8 @@ ackWords delay rs ecn = number (largestOf rs) ∷ number delay ∷ raw (blockByt
 
 -- what is written: 14 where the list does not keep its rule, or where frameOut says so
 unfoldable pub ackOut : ℕ → List ℕ → Option (ℕ × (ℕ × ℕ)) → Answer (List ℕ)
-ackOut delay l ecn = if isRanges l then frameOut table (typeOf ecn) (ackWords delay (ranges l) ecn) else no 14
+ackOut delay l ecn = if isRanges l then frameOut table (ackTypeOf ecn) (ackWords delay (allRanges l) ecn) else no 14
 
 -- the integers that stand before the blocks
 abbrev pub headOf : ℕ → List Range → Option (ℕ × (ℕ × ℕ)) → List ℕ
-headOf delay rs ecn = typeOf ecn ∷ largestOf rs ∷ delay ∷ (length rs - 1) ∷ []
+headOf delay rs ecn = ackTypeOf ecn ∷ largestOf rs ∷ delay ∷ (length rs - 1) ∷ []

@@ -4,6 +4,6 @@ use mathlib.Core.Option.{Option, none, some}
 use Rattle.frame.specs.declared.kinds.AckEcn.{AckEcn}
 use Rattle.frame.specs.declared.kinds.AckEcn.the-variants as ecn
 
-abbrev pub ecnOf : AckEcn → Option (ℕ × (ℕ × ℕ))
-ecnOf ecn.Nothing = none
-ecnOf (ecn.Counts x) = some (x .ect0, (x .ect1, x .ce))
+abbrev pub ecnGiven : AckEcn → Option (ℕ × (ℕ × ℕ))
+ecnGiven ecn.Nothing = none
+ecnGiven (ecn.Counts x) = some (x .ect0, (x .ect1, x .ce))

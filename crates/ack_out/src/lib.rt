@@ -7,6 +7,7 @@ use coding::VarInt;
 use coding::Wrote;
 use frame::AckEcn;
 use shared::FrameType;
+use shared::NUMBER_END;
 ghost use mathlib.Core.Path.{_≡_};
 ghost use mathlib.Core.Bool.{true};
 ghost use mathlib.Core.List.{[]};
@@ -16,16 +17,16 @@ ghost use Rattle.coding.specs.Varint.{varSize};
 ghost use Rattle.coding.specs.Said.{sizedOf, wroteOf};
 ghost use Rattle.coding.specs.Writing.{lengthOf, Written, Put};
 ghost use Rattle.row_out.specs.Limits.{varsOut, stored};
-ghost use Rattle.ack_out.specs.Acks.{ascends, isRanges, ranges, blockBytes, typeOf, headOf, countsOf, ackOut};
-ghost use Rattle.ack_out.specs.Said.{ecnOf};
+ghost use Rattle.ack_out.specs.Acks.{ascends, isRanges, allRanges, blockBytes, ackTypeOf, headOf, countsOf, ackOut};
+ghost use Rattle.ack_out.specs.Said.{ecnGiven};
 
 // Whether each number is below the next.
-fn ascends(ranges: &[u64]) -> bool
-    ensures { λ r. ⌜ r ≡ ascends (now (ranges .entry)) ⌝ }
+fn ascends(list: &[u64]) -> bool
+    ensures { λ r. ⌜ r ≡ ascends (now (list .entry)) ⌝ }
 {
     let mut i = 0;
-    while i + 1 < ranges.len() {
-        if ranges[i + 1] <= ranges[i] {
+    while i + 1 < list.len() {
+        if list[i + 1] <= list[i] {
             return false;
         }
         i += 1;
@@ -34,20 +35,20 @@ fn ascends(ranges: &[u64]) -> bool
 }
 
 // Whether the list keeps its rule: not empty, no start without an end, the last end at most 2^62, ascending.
-fn is_ranges(ranges: &[u64]) -> bool
-    ensures { λ r. ⌜ r ≡ isRanges (now (ranges .entry)) ⌝ }
+fn is_ranges(list: &[u64]) -> bool
+    ensures { λ r. ⌜ r ≡ isRanges (now (list .entry)) ⌝ }
 {
-    let n = ranges.len();
+    let n = list.len();
     if n == 0 {
         return false;
     }
     if n % 2 == 1 {
         return false;
     }
-    if 0x4000_0000_0000_0000 < ranges[n - 1] {
+    if NUMBER_END < list[n - 1] {
         return false;
     }
-    ascends(ranges)
+    ascends(list)
 }
 
 // The bytes of an integer that has a form.
@@ -72,7 +73,7 @@ fn step_at(list: &[u64], i: usize) -> u64
 // The bytes of the blocks.
 fn blocks_len(list: &[u64]) -> usize
     requires { ⌜ (isRanges (now list) ≡ true) × (length (now list) ≤ 65527) ⌝ }
-    ensures { λ r. ⌜ (r ≡ length (blockBytes (ranges (now (list .entry))))) × (r ≤ 8 * 65527) ⌝ }
+    ensures { λ r. ⌜ (r ≡ length (blockBytes (allRanges (now (list .entry))))) × (r ≤ 8 * 65527) ⌝ }
 {
     let mut len = 0;
     let mut i = list.len() - 1;
@@ -85,8 +86,8 @@ fn blocks_len(list: &[u64]) -> usize
 
 // Puts the blocks, the largest range's first.
 fn put_blocks(list: &[u64], buf: &mut [u8], at: usize) -> usize
-    requires { ⌜ (isRanges (now list) ≡ true) × (at + length (blockBytes (ranges (now list))) ≤ length (now buf)) ⌝ }
-    ensures { λ r. ⌜ Put (blockBytes (ranges (now (list .entry)))) (now (buf .entry)) at r (now (buf .exit)) ⌝ }
+    requires { ⌜ (isRanges (now list) ≡ true) × (at + length (blockBytes (allRanges (now list))) ≤ length (now buf)) ⌝ }
+    ensures { λ r. ⌜ Put (blockBytes (allRanges (now (list .entry)))) (now (buf .entry)) at r (now (buf .exit)) ⌝ }
 {
     let mut next = at;
     let mut i = list.len() - 1;
@@ -98,7 +99,7 @@ fn put_blocks(list: &[u64], buf: &mut [u8], at: usize) -> usize
 }
 
 fn ack_type(ecn: AckEcn) -> FrameType
-    ensures { λ r. ⌜ r .0 ≡ typeOf (ecnOf ecn) ⌝ }
+    ensures { λ r. ⌜ r .0 ≡ ackTypeOf (ecnGiven ecn) ⌝ }
 {
     match ecn {
         AckEcn::Counts(_) => FrameType::ACK_ECN,
@@ -109,7 +110,7 @@ fn ack_type(ecn: AckEcn) -> FrameType
 // The integers before the blocks: the type, the largest number, the delay, and how many ranges follow the first.
 fn head_of(delay: u64, list: &[u64], ecn: AckEcn) -> [u64; 4]
     requires { ⌜ isRanges (now list) ≡ true ⌝ }
-    ensures { λ r. ⌜ r ≡ headOf delay (ranges (now (list .entry))) (ecnOf ecn) ⌝ }
+    ensures { λ r. ⌜ r ≡ headOf delay (allRanges (now (list .entry))) (ecnGiven ecn) ⌝ }
 {
     let n = list.len();
     [ack_type(ecn).0, list[n - 1] - 1, delay, (n / 2 - 1) as u64]
@@ -117,7 +118,7 @@ fn head_of(delay: u64, list: &[u64], ecn: AckEcn) -> [u64; 4]
 
 // The bytes of the ECN counts, or 14.
 fn counts_len(ecn: AckEcn) -> Sized
-    ensures { λ r. ⌜ sizedOf r ≡ lengthOf (varsOut (countsOf (ecnOf ecn)) []) ⌝ }
+    ensures { λ r. ⌜ sizedOf r ≡ lengthOf (varsOut (countsOf (ecnGiven ecn)) []) ⌝ }
 {
     match ecn {
         AckEcn::Counts(c) => row_out::vars_len(&[c.ect0, c.ect1, c.ce]),
@@ -126,7 +127,7 @@ fn counts_len(ecn: AckEcn) -> Sized
 }
 
 fn put_counts(ecn: AckEcn, buf: &mut [u8], at: usize) -> usize
-    ensures { λ r. ⌜ Put (stored (varsOut (countsOf (ecnOf ecn)) [])) (now (buf .entry)) at r (now (buf .exit)) ⌝ }
+    ensures { λ r. ⌜ Put (stored (varsOut (countsOf (ecnGiven ecn)) [])) (now (buf .entry)) at r (now (buf .exit)) ⌝ }
 {
     match ecn {
         AckEcn::Counts(c) => row_out::put_vars(buf, at, &[c.ect0, c.ect1, c.ce]),
@@ -137,7 +138,7 @@ fn put_counts(ecn: AckEcn, buf: &mut [u8], at: usize) -> usize
 // The bytes of the frame of a list that keeps its rule, or 14. Each number of the list has a byte or more.
 fn frame_len(delay: u64, list: &[u64], ecn: AckEcn) -> Sized
     requires { ⌜ isRanges (now list) ≡ true ⌝ }
-    ensures { λ r. ⌜ sizedOf r ≡ lengthOf (ackOut delay (now (list .entry)) (ecnOf ecn)) ⌝ }
+    ensures { λ r. ⌜ sizedOf r ≡ lengthOf (ackOut delay (now (list .entry)) (ecnGiven ecn)) ⌝ }
 {
     if MAX_DATAGRAM < list.len() {
         return Sized::Refused(Refusal::Argument);
@@ -158,7 +159,7 @@ fn frame_len(delay: u64, list: &[u64], ecn: AckEcn) -> Sized
 
 // The bytes of the frame, or 14.
 fn ack_len(delay: u64, list: &[u64], ecn: AckEcn) -> Sized
-    ensures { λ r. ⌜ sizedOf r ≡ lengthOf (ackOut delay (now (list .entry)) (ecnOf ecn)) ⌝ }
+    ensures { λ r. ⌜ sizedOf r ≡ lengthOf (ackOut delay (now (list .entry)) (ecnGiven ecn)) ⌝ }
 {
     if is_ranges(list) {
         return frame_len(delay, list, ecn);
@@ -167,17 +168,17 @@ fn ack_len(delay: u64, list: &[u64], ecn: AckEcn) -> Sized
 }
 
 // Writes an ACK frame from byte 0 of out on.
-pub fn ack(delay: u64, ranges: &[u64], ecn: AckEcn, out: &mut [u8]) -> Wrote
-    ensures { λ r. ⌜ Written (ackOut delay (now (ranges .entry)) (ecnOf ecn)) (now (out .entry)) (wroteOf r) (now (out .exit)) ⌝ }
+pub fn ack(delay: u64, list: &[u64], ecn: AckEcn, out: &mut [u8]) -> Wrote
+    ensures { λ r. ⌜ Written (ackOut delay (now (list .entry)) (ecnGiven ecn)) (now (out .entry)) (wroteOf r) (now (out .exit)) ⌝ }
 {
-    let Sized::Bytes(len) = ack_len(delay, ranges, ecn) else {
+    let Sized::Bytes(len) = ack_len(delay, list, ecn) else {
         return Wrote::Refused(Refusal::Argument);
     };
     if out.len() < len {
         return Wrote::Refused(Refusal::Room);
     }
-    let head = head_of(delay, ranges, ecn);
+    let head = head_of(delay, list, ecn);
     let blocks = row_out::put_vars(out, 0, &head);
-    let counts = put_blocks(ranges, out, blocks);
+    let counts = put_blocks(list, out, blocks);
     Wrote::Len(put_counts(ecn, out, counts))
 }

@@ -18,5 +18,5 @@ use Rattle.examples.specs.Table.{found, written, made, grown, numberIn, 
 
 -- the statement
 pub holds-table : answers table ≡ replies table
-unfolding table answers replies answer found written made grown if_then_else_ andThen be bytesBE partOf fixedAt takeAt varLen varAt varTag varSize varBytes in62 varOut cidOf cidOn longCidAt windowOf isCut bytesFor cutTo cutMade nearestTo expanded typeOf refusedHeader outside unfixed listed headed initialAt lengthAt tailAt bodyAt longAt shortAt firstAt headerBy numberIn placeIn ranged rounds scanAt ackStep goOn stepping thenRead upTo blocksAt fieldAt fieldsAt frame.table frame.bodyAt frame.outcome frame.frameAt
+unfolding table answers replies answer found written made grown if_then_else_ andThen be bytesBE partOf fixedAt takeAt varLen varAt varTag varSize varBytes in62 varOut cidOf cidOn longCidAt windowOf isCut bytesFor cutTo cutMade nearestTo expanded typeOf refusedHeader outside unfixed listed headed initialAt lengthAt tailAt bodyAt longAt shortAt firstAt headerBy numberIn placeIn ranged rounds scanAt ackStep goOn stepping thenRead upTo blocksAt fieldAt fieldsAt frame.table frame.frameBodyAt frame.outcome frame.frameAt
 holds-table = refl

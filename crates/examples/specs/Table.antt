@@ -80,7 +80,7 @@ placeIn (num n) = record { start = 0; len = 0 }
 placeIn (place p) = p
 placeIn none = record { start = 0; len = 0 }
 
-unfoldable pub ranged : List ℕ → frame.Outcome → Reply
+unfoldable pub ranged : List ℕ → frame.FrameOutcome → Reply
 ranged s (frame.taken t (said name values) next) =
     ranges (stepping (length s) (partOf s (placeIn (getD values 2 none))) 0 (numberIn (getD values 0 none)))
 ranged s (frame.refused k start t) = frameRefused k start t

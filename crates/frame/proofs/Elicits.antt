@@ -1,4 +1,4 @@
--- The closes, and the last arm of `is_ack_eliciting`: every kind that no arm before it names. Assumes nothing.
+-- The closes, and the last arm of `is_ack_eliciting`: every kind that no arm before it names.
 use mathlib.Core.Path.{_≡_, refl}
 use mathlib.Core.Logic.{⊎-elim}
 use mathlib.Core.List.{List, [], _∷_}

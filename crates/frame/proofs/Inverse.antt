@@ -1,4 +1,4 @@
--- What an answer says gives the answer back: no two answers say the same. Assumes nothing.
+-- What an answer says gives the answer back: no two answers say the same.
 use mathlib.Core.Path.{_≡_, refl, ap}
 use mathlib.Core.List.{List}
 use mathlib.Core.Bool.{Bool, true, false, cond}
@@ -26,11 +26,11 @@ use Rattle.frame.specs.declared.FrameStep.{FrameStep}
 use Rattle.frame.specs.declared.FrameStep.the-variants as step
 use Rattle.frame.specs.declared.SizedStep.{SizedStep}
 use Rattle.frame.specs.Format.{Value, num, place, none, Said, said}
-use Rattle.frame.specs.Table.{Outcome, taken, refused}
+use Rattle.frame.specs.Table.{FrameOutcome, taken, refused}
 use Rattle.frame.specs.Types.{nth, numOf}
-use Rattle.frame.specs.Walk.{Step, end}
+use Rattle.frame.specs.Walk.{WalkStep, end}
 use Rattle.frame.specs.Walk as walk
-use Rattle.frame.specs.Said.{typeSeen, frameSaid, saidOf, stepOf, sizedOf}
+use Rattle.frame.specs.Said.{typeSeen, frameSaid, saidOf, stepOf, sizedStepOf}
 
 -- ---- a value back in its kind
 
@@ -151,7 +151,7 @@ seen-back : (t : TypeRead) → typeOut (typeSeen t) ≡ t
 seen-back ty.Nothing = refl
 seen-back (ty.Type t) = refl
 
-abbrev pub readOf : Outcome → FrameRead
+abbrev pub readOf : FrameOutcome → FrameRead
 readOf (taken t f n) = read.Got (unsaid f) (record { 0 = t }) n
 readOf (refused k start t) = read.Refused (refusalOf k) start (typeOut t)
 
@@ -160,7 +160,7 @@ unfolding saidOf
 read-back (read.Got f t n) = rw (frame-back f)
 read-back (read.Refused why start t) = rw (refusal-back why, seen-back t)
 
-abbrev stepIn : Step → FrameStep
+abbrev stepIn : WalkStep → FrameStep
 stepIn (walk.frame o) = step.Read (readOf o)
 stepIn end = step.End
 
@@ -169,12 +169,12 @@ unfolding stepOf
 step-back (step.Read r) = ap step.Read (read-back r)
 step-back step.End = refl
 
-pub read-one : (x y : FrameRead) (o : Outcome) → saidOf x ≡ o → saidOf y ≡ o → x ≡ y
+pub read-one : (x y : FrameRead) (o : FrameOutcome) → saidOf x ≡ o → saidOf y ≡ o → x ≡ y
 read-one = one-by saidOf readOf read-back
 
-pub step-one : (x y : FrameStep) (s : Step) → stepOf x ≡ s → stepOf y ≡ s → x ≡ y
+pub step-one : (x y : FrameStep) (s : WalkStep) → stepOf x ≡ s → stepOf y ≡ s → x ≡ y
 step-one = one-by stepOf stepIn step-back
 
-pub sized-one : (x y : SizedStep) (s : Step × ℕ) → sizedOf x ≡ s → sizedOf y ≡ s → x ≡ y
-unfolding sizedOf
-sized-one = one-by sizedOf (λ s. record { step = stepIn (s .0); size = s .1 }) (λ r i. record { step = step-back (r .step) i; size = r .size })
+pub sized-one : (x y : SizedStep) (s : WalkStep × ℕ) → sizedStepOf x ≡ s → sizedStepOf y ≡ s → x ≡ y
+unfolding sizedStepOf
+sized-one = one-by sizedStepOf (λ s. record { step = stepIn (s .0); size = s .1 }) (λ r i. record { step = step-back (r .step) i; size = r .size })

@@ -1,4 +1,4 @@
--- The table looked up at a number that is none of a `match`'s single numbers: only the rows that those do not cover are left. Assumes nothing.
+-- The table looked up at a number that is none of a `match`'s single numbers: only the rows that those do not cover are left.
 use Prim.Native.Nat.{ℕ, zero, suc, _+_, _≤_}
 use native.Mathlib.Omega.{arith}
 use mathlib.Core.List.{List, [], _∷_}

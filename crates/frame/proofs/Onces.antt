@@ -1,4 +1,4 @@
--- Only one answer meets the contract of each public function. Assumes nothing.
+-- Only one answer meets the contract of each public function.
 use mathlib.Core.Path.{_∙_, sym, ap}
 use Prim.Native.Nat.{ℕ}
 use Rattle.coding.specs.Once.{Once}

@@ -1,4 +1,4 @@
--- The lists of lemmas that a `search` at a return takes: those of a run of reads, and those of this crate's fields. Assumes nothing.
+-- The lists of lemmas that a `search` at a return takes: those of a run of reads, and those of this crate's fields.
 use mathlib.Core.Path.{_≡_, refl}
 use Prim.Native.Nat.{ℕ}
 use mathlib.Core.Bool.{Bool, true, false}
@@ -21,7 +21,7 @@ use Rattle.frame.specs.declared.kinds.Frame.{Frame}
 use Rattle.frame.specs.declared.body.Body.{Body}
 use Rattle.frame.specs.declared.body.Body.the-variants as body
 use Rattle.frame.specs.Format.{Value, num, place, Said, var, bytes, rest, const, Read, refuse, thenRead, bytesAt, cidAt, blocksAt, fieldAt, varIf, dataIf}
-use Rattle.frame.specs.Table.{Outcome, taken, refused, outcome}
+use Rattle.frame.specs.Table.{FrameOutcome, taken, refused, outcome}
 use Rattle.frame.specs.Said.{frameSaid, fieldOf, bodyOf}
 
 -- a part with a length was found, or it was cut
@@ -55,7 +55,7 @@ module _ {A : Type 0} (x : Read A) (s : List ℕ) (at : ℕ) (f : Place → ℕ 
     blocks-no why q h = rw (← e, q) h
 
 -- what follows a type was read, or refused
-module _ (x : Outcome) (start t : ℕ) (r : Body) (b : Read Said) (e : bodyOf r ≡ b) where
+module _ (x : FrameOutcome) (start t : ℕ) (r : Body) (b : Read Said) (e : bodyOf r ≡ b) where
   pub body-on : (f : Frame) (n : ℕ) → r ≡ body.Done f n → x ≡ taken t (frameSaid f) n → x ≡ outcome start t b
   unfolding outcome bodyOf
   body-on f n q h = rw (← e, q) h
@@ -66,7 +66,7 @@ module _ (x : Outcome) (start t : ℕ) (r : Body) (b : Read Said) (e : bodyOf r 
 
 -- a field that goes by a bit of the type, as the code reads it
 module _ (s : List ℕ) (at : ℕ) (seen : List Value) (next : Value → ℕ → Read Said) where
-  var-if : (b : Bool) → fieldAt (if b then var else const (num 0)) s at seen next ≡ andThen (varIf b s at) (refuse 10) (λ v n. next (num v) n)
+  var-if : (b : Bool) → fieldAt (if b then var else const 0) s at seen next ≡ andThen (varIf b s at) (refuse 10) (λ v n. next (num v) n)
   unfolding fieldAt varIf andThen if_then_else_
   var-if true = refl
   var-if false = refl
@@ -78,11 +78,11 @@ module _ (s : List ℕ) (at : ℕ) (seen : List Value) (next : Value → ℕ →
 
   module _ (x : Read Said) (b c : Bool) (same : c ≡ b) where
     module _ (r : VarRead) (e : varOf r ≡ varIf c s at) where
-      pub var-if-on : (v : VarInt) (n : ℕ) → r ≡ var-read.Var v n → x ≡ next (num (v .0)) n → x ≡ fieldAt (if b then var else const (num 0)) s at seen next
+      pub var-if-on : (v : VarInt) (n : ℕ) → r ≡ var-read.Var v n → x ≡ next (num (v .0)) n → x ≡ fieldAt (if b then var else const 0) s at seen next
       unfolding andThen varOf
       var-if-on v n q h = rw (var-if b, ← same, ← e, q) h
 
-      pub var-if-cut : r ≡ var-read.End → x ≡ refuse 10 → x ≡ fieldAt (if b then var else const (num 0)) s at seen next
+      pub var-if-cut : r ≡ var-read.End → x ≡ refuse 10 → x ≡ fieldAt (if b then var else const 0) s at seen next
       unfolding andThen varOf
       var-if-cut q h = rw (var-if b, ← same, ← e, q) h
 

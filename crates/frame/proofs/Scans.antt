@@ -1,4 +1,4 @@
--- What the answer of the block scan says of the field of ACK blocks. Assumes nothing.
+-- What the answer of the block scan says of the field of ACK blocks.
 use mathlib.Core.Path.{_≡_, sym, _∙_}
 use mathlib.Core.List.{List}
 use mathlib.Core.Bool.{Bool, true, false}

@@ -30,7 +30,8 @@ pub data Field : Type 0 where
   num64 : Field  -- eight bytes, a number
   cid : Field  -- a length byte of 1 to 20, and so many bytes
   ackBlocks : Field  -- a count, and the ACK blocks of so many rounds, below the number read two fields before
-  const : Value → Field  -- no byte: what the type itself says
+  const : ℕ → Field  -- no byte: a number that the type itself says
+  absent : Field  -- no byte: nothing is there
 
 -- what is read: a value and the place past it, or a refusal's number
 pub data Read (A : Type 0) : Type 0 where
@@ -48,8 +49,8 @@ thenRead (refuse k) next = refuse k
 unfoldable pub bytesAt : List ℕ → ℕ → Got Place
 bytesAt s at = andThen (varAt s at) cut (λ n p. takeAt n s p)
 
-unfoldable pub restAt : List ℕ → ℕ → Got Place
-restAt s at = takeAt (length s - at) s at
+unfoldable pub allLeftAt : List ℕ → ℕ → Got Place
+allLeftAt s at = takeAt (length s - at) s at
 
 -- a length byte of 1 to 20, and so many bytes
 unfoldable pub cidAt : List ℕ → ℕ → Read Place
@@ -75,28 +76,29 @@ orNothing n = if eqb n 0 then none else num n
 -- ---- a run of fields
 
 -- the number read last, and the one before it
-abbrev pub last : List Value → ℕ
-last [] = 0
-last (num n ∷ vs) = n
-last (place p ∷ vs) = 0
-last (none ∷ vs) = 0
+abbrev pub lastRead : List Value → ℕ
+lastRead [] = 0
+lastRead (num n ∷ vs) = n
+lastRead (place p ∷ vs) = 0
+lastRead (none ∷ vs) = 0
 
 abbrev pub lastButOne : List Value → ℕ
 lastButOne [] = 0
-lastButOne (v ∷ vs) = last vs
+lastButOne (v ∷ vs) = lastRead vs
 
 -- one field at a place, after the values `seen` (the last one first); then `next` of its value and of the place past it
 unfoldable pub fieldAt : Field → List ℕ → ℕ → List Value → (Value → ℕ → Read Said) → Read Said
 fieldAt var s at seen next = andThen (varAt s at) (refuse 10) (λ v n. next (num v) n)
 fieldAt orNone s at seen next = andThen (varAt s at) (refuse 10) (λ v n. next (orNothing v) n)
-fieldAt atMost s at seen next = andThen (varAt s at) (refuse 10) (λ v n. if ltb (last seen) v then refuse 12 else next (num v) n)
+fieldAt atMost s at seen next = andThen (varAt s at) (refuse 10) (λ v n. if ltb (lastRead seen) v then refuse 12 else next (num v) n)
 fieldAt bytes s at seen next = andThen (bytesAt s at) (refuse 10) (λ p n. next (place p) n)
-fieldAt rest s at seen next = andThen (restAt s at) (refuse 10) (λ p n. next (place p) n)
+fieldAt rest s at seen next = andThen (allLeftAt s at) (refuse 10) (λ p n. next (place p) n)
 fieldAt (fixed w) s at seen next = andThen (takeAt w s at) (refuse 10) (λ p n. next (place p) n)
 fieldAt num64 s at seen next = andThen (fixedAt 8 s at) (refuse 10) (λ v n. next (num v) n)
 fieldAt cid s at seen next = thenRead (cidAt s at) (λ p n. next (place p) n)
 fieldAt ackBlocks s at seen next = thenRead (blocksAt s at (lastButOne seen)) (λ p n. next (place p) n)
-fieldAt (const v) s at seen next = next v at
+fieldAt (const v) s at seen next = next (num v) at
+fieldAt absent s at seen next = next none at
 
 -- the values, first one first
 abbrev pub inOrder : List Value → List Value → List Value
@@ -118,4 +120,4 @@ unfoldable pub varIf : Bool → List ℕ → ℕ → Got ℕ
 varIf there s at = if there then varAt s at else got 0 at
 
 unfoldable pub dataIf : Bool → List ℕ → ℕ → Got Place
-dataIf there s at = if there then bytesAt s at else restAt s at
+dataIf there s at = if there then bytesAt s at else allLeftAt s at

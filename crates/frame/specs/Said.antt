@@ -24,8 +24,8 @@ use Rattle.frame.specs.declared.FrameStep.{FrameStep}
 use Rattle.frame.specs.declared.FrameStep.the-variants as step
 use Rattle.frame.specs.declared.SizedStep.{SizedStep}
 use Rattle.frame.specs.Format.{Value, num, place, none, Said, said, Read, done, refuse}
-use Rattle.frame.specs.Table.{flag, Outcome, taken, refused}
-use Rattle.frame.specs.Walk.{Step, end}
+use Rattle.frame.specs.Table.{flag, FrameOutcome, taken, refused}
+use Rattle.frame.specs.Walk.{WalkStep, end}
 use Rattle.frame.specs.Walk as walk
 
 abbrev pub typeValue : TypeRead → Value
@@ -78,13 +78,13 @@ unfoldable pub bodyOf : Body → Read Said
 bodyOf (body.Done f n) = done (frameSaid f) n
 bodyOf (body.Refused why) = refuse (numberOf why)
 
-unfoldable pub saidOf : FrameRead → Outcome
+unfoldable pub saidOf : FrameRead → FrameOutcome
 saidOf (read.Got f t n) = taken (t .0) (frameSaid f) n
 saidOf (read.Refused why start t) = refused (numberOf why) start (typeSeen t)
 
-unfoldable pub stepOf : FrameStep → Step
+unfoldable pub stepOf : FrameStep → WalkStep
 stepOf (step.Read r) = walk.frame (saidOf r)
 stepOf step.End = end
 
-unfoldable pub sizedOf : SizedStep → Step × ℕ
-sizedOf r = (stepOf (r .step), r .size)
+unfoldable pub sizedStepOf : SizedStep → WalkStep × ℕ
+sizedStepOf r = (stepOf (r .step), r .size)

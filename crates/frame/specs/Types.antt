@@ -17,15 +17,15 @@ nth [] i = none
 nth (v ∷ vs) zero = v
 nth (v ∷ vs) (suc i) = nth vs i
 
-abbrev pub at : List Value → ℕ → ℕ
-at vs i = numOf (nth vs i)
+abbrev pub numAt : List Value → ℕ → ℕ
+numAt vs i = numOf (nth vs i)
 
 -- the first type of its row; of a stream with the bits of fin and of an offset that is not 0, of a count with its way
-unfoldable pub typeOf : Said → ℕ
-typeOf (said name vs) =
-    if eqb name 0x08 then 0x08 + at vs 2 + (if eqb (at vs 1) 0 then 0 else 4) else
-    if eqb name 0x12 then 0x12 + at vs 0 else
-    if eqb name 0x16 then 0x16 + at vs 0 else
+unfoldable pub frameTypeOf : Said → ℕ
+frameTypeOf (said name vs) =
+    if eqb name 0x08 then 0x08 + numAt vs 2 + (if eqb (numAt vs 1) 0 then 0 else 4) else
+    if eqb name 0x12 then 0x12 + numAt vs 0 else
+    if eqb name 0x16 then 0x16 + numAt vs 0 else
     name
 
 -- all but PADDING, ACK and the two closes

@@ -26,6 +26,7 @@ use shared::Dir;
 use shared::FrameType;
 use shared::FullNumber;
 use shared::StreamId;
+use shared::types;
 ghost use mathlib.Core.Path.{_≡_};
 ghost use mathlib.Core.Bool.{true};
 ghost use mathlib.Core.List.{[], _∷_};
@@ -33,7 +34,7 @@ ghost use Prim.Native.Nat.{_≤_};
 ghost use lib.ListN.{length};
 ghost use Rattle.shared.specs.Said.{dirBit};
 ghost use Rattle.frame.specs.Format.{num, place, orNothing, fieldsAt};
-ghost use Rattle.frame.specs.Table.{table, ackFields, ecnFields, countFields, streamFields, dataFields, bodyAt};
+ghost use Rattle.frame.specs.Table.{table, ackFields, ecnFields, countFields, streamFields, dataFields, frameBodyAt};
 ghost use Rattle.frame.specs.Said.{bodyOf, typeValue};
 
 // The frame and the place past it, or why it is refused.
@@ -104,7 +105,7 @@ fn ack(s: &[u8], at: usize, ecn: bool) -> Body
 }
 
 fn reset_stream(s: &[u8], at: usize) -> Body
-    ensures { λ r. ⌜ bodyOf r ≡ bodyAt table 0x04 (now (s .entry)) at ⌝ }
+    ensures { λ r. ⌜ bodyOf r ≡ frameBodyAt table 0x04 (now (s .entry)) at ⌝ }
 {
     let VarRead::Var(id, p) = coding::get_var(s, at) else {
         return Body::Refused(Refusal::UnexpectedEnd);
@@ -124,7 +125,7 @@ fn reset_stream(s: &[u8], at: usize) -> Body
 }
 
 fn stop_sending(s: &[u8], at: usize) -> Body
-    ensures { λ r. ⌜ bodyOf r ≡ bodyAt table 0x05 (now (s .entry)) at ⌝ }
+    ensures { λ r. ⌜ bodyOf r ≡ frameBodyAt table 0x05 (now (s .entry)) at ⌝ }
 {
     let VarRead::Var(id, p) = coding::get_var(s, at) else {
         return Body::Refused(Refusal::UnexpectedEnd);
@@ -140,7 +141,7 @@ fn stop_sending(s: &[u8], at: usize) -> Body
 }
 
 fn crypto(s: &[u8], at: usize) -> Body
-    ensures { λ r. ⌜ bodyOf r ≡ bodyAt table 0x06 (now (s .entry)) at ⌝ }
+    ensures { λ r. ⌜ bodyOf r ≡ frameBodyAt table 0x06 (now (s .entry)) at ⌝ }
 {
     let VarRead::Var(offset, p) = coding::get_var(s, at) else {
         return Body::Refused(Refusal::UnexpectedEnd);
@@ -153,7 +154,7 @@ fn crypto(s: &[u8], at: usize) -> Body
 }
 
 fn new_token(s: &[u8], at: usize) -> Body
-    ensures { λ r. ⌜ bodyOf r ≡ bodyAt table 0x07 (now (s .entry)) at ⌝ }
+    ensures { λ r. ⌜ bodyOf r ≡ frameBodyAt table 0x07 (now (s .entry)) at ⌝ }
 {
     let PlaceRead::At(token, next) = field::take_len(s, at) else {
         return Body::Refused(Refusal::UnexpectedEnd);
@@ -164,9 +165,9 @@ fn new_token(s: &[u8], at: usize) -> Body
 fn stream(s: &[u8], at: usize, ty: u64) -> Body
     ensures { λ r. ⌜ bodyOf r ≡ fieldsAt 0x08 (streamFields ty) (now (s .entry)) at [] ⌝ }
 {
-    let off = field::has(ty, 4);
-    let len = field::has(ty, 2);
-    let fin = field::has(ty, 1);
+    let off = field::has(ty, types::OFF);
+    let len = field::has(ty, types::LEN);
+    let fin = field::has(ty, types::FIN);
     let VarRead::Var(id, p) = coding::get_var(s, at) else {
         return Body::Refused(Refusal::UnexpectedEnd);
     };
@@ -191,7 +192,7 @@ fn stream(s: &[u8], at: usize, ty: u64) -> Body
 }
 
 fn max_data(s: &[u8], at: usize) -> Body
-    ensures { λ r. ⌜ bodyOf r ≡ bodyAt table 0x10 (now (s .entry)) at ⌝ }
+    ensures { λ r. ⌜ bodyOf r ≡ frameBodyAt table 0x10 (now (s .entry)) at ⌝ }
 {
     let VarRead::Var(n, next) = coding::get_var(s, at) else {
         return Body::Refused(Refusal::UnexpectedEnd);
@@ -200,7 +201,7 @@ fn max_data(s: &[u8], at: usize) -> Body
 }
 
 fn max_stream_data(s: &[u8], at: usize) -> Body
-    ensures { λ r. ⌜ bodyOf r ≡ bodyAt table 0x11 (now (s .entry)) at ⌝ }
+    ensures { λ r. ⌜ bodyOf r ≡ frameBodyAt table 0x11 (now (s .entry)) at ⌝ }
 {
     let VarRead::Var(id, p) = coding::get_var(s, at) else {
         return Body::Refused(Refusal::UnexpectedEnd);
@@ -224,7 +225,7 @@ fn max_streams(s: &[u8], at: usize, dir: Dir) -> Body
 }
 
 fn data_blocked(s: &[u8], at: usize) -> Body
-    ensures { λ r. ⌜ bodyOf r ≡ bodyAt table 0x14 (now (s .entry)) at ⌝ }
+    ensures { λ r. ⌜ bodyOf r ≡ frameBodyAt table 0x14 (now (s .entry)) at ⌝ }
 {
     let VarRead::Var(offset, next) = coding::get_var(s, at) else {
         return Body::Refused(Refusal::UnexpectedEnd);
@@ -234,7 +235,7 @@ fn data_blocked(s: &[u8], at: usize) -> Body
 }
 
 fn stream_data_blocked(s: &[u8], at: usize) -> Body
-    ensures { λ r. ⌜ bodyOf r ≡ bodyAt table 0x15 (now (s .entry)) at ⌝ }
+    ensures { λ r. ⌜ bodyOf r ≡ frameBodyAt table 0x15 (now (s .entry)) at ⌝ }
 {
     let VarRead::Var(id, p) = coding::get_var(s, at) else {
         return Body::Refused(Refusal::UnexpectedEnd);
@@ -258,7 +259,7 @@ fn streams_blocked(s: &[u8], at: usize, dir: Dir) -> Body
 }
 
 fn new_connection_id(s: &[u8], at: usize) -> Body
-    ensures { λ r. ⌜ bodyOf r ≡ bodyAt table 0x18 (now (s .entry)) at ⌝ }
+    ensures { λ r. ⌜ bodyOf r ≡ frameBodyAt table 0x18 (now (s .entry)) at ⌝ }
 {
     let VarRead::Var(sequence, p) = coding::get_var(s, at) else {
         return Body::Refused(Refusal::UnexpectedEnd);
@@ -287,7 +288,7 @@ fn new_connection_id(s: &[u8], at: usize) -> Body
 }
 
 fn retire_connection_id(s: &[u8], at: usize) -> Body
-    ensures { λ r. ⌜ bodyOf r ≡ bodyAt table 0x19 (now (s .entry)) at ⌝ }
+    ensures { λ r. ⌜ bodyOf r ≡ frameBodyAt table 0x19 (now (s .entry)) at ⌝ }
 {
     let VarRead::Var(sequence, next) = coding::get_var(s, at) else {
         return Body::Refused(Refusal::UnexpectedEnd);
@@ -297,7 +298,7 @@ fn retire_connection_id(s: &[u8], at: usize) -> Body
 }
 
 fn path_challenge(s: &[u8], at: usize) -> Body
-    ensures { λ r. ⌜ bodyOf r ≡ bodyAt table 0x1a (now (s .entry)) at ⌝ }
+    ensures { λ r. ⌜ bodyOf r ≡ frameBodyAt table 0x1a (now (s .entry)) at ⌝ }
 {
     let U64Read::Num(x, next) = coding::get_u64(s, at) else {
         return Body::Refused(Refusal::UnexpectedEnd);
@@ -306,7 +307,7 @@ fn path_challenge(s: &[u8], at: usize) -> Body
 }
 
 fn path_response(s: &[u8], at: usize) -> Body
-    ensures { λ r. ⌜ bodyOf r ≡ bodyAt table 0x1b (now (s .entry)) at ⌝ }
+    ensures { λ r. ⌜ bodyOf r ≡ frameBodyAt table 0x1b (now (s .entry)) at ⌝ }
 {
     let U64Read::Num(x, next) = coding::get_u64(s, at) else {
         return Body::Refused(Refusal::UnexpectedEnd);
@@ -325,7 +326,7 @@ fn type_read(x: u64) -> TypeRead
 }
 
 fn connection_close(s: &[u8], at: usize) -> Body
-    ensures { λ r. ⌜ bodyOf r ≡ bodyAt table 0x1c (now (s .entry)) at ⌝ }
+    ensures { λ r. ⌜ bodyOf r ≡ frameBodyAt table 0x1c (now (s .entry)) at ⌝ }
 {
     let VarRead::Var(error_code, p) = coding::get_var(s, at) else {
         return Body::Refused(Refusal::UnexpectedEnd);
@@ -347,7 +348,7 @@ fn connection_close(s: &[u8], at: usize) -> Body
 }
 
 fn application_close(s: &[u8], at: usize) -> Body
-    ensures { λ r. ⌜ bodyOf r ≡ bodyAt table 0x1d (now (s .entry)) at ⌝ }
+    ensures { λ r. ⌜ bodyOf r ≡ frameBodyAt table 0x1d (now (s .entry)) at ⌝ }
 {
     let VarRead::Var(error_code, p) = coding::get_var(s, at) else {
         return Body::Refused(Refusal::UnexpectedEnd);
@@ -371,7 +372,7 @@ fn datagram(s: &[u8], at: usize, ty: u64) -> Body
 }
 
 fn ack_frequency(s: &[u8], at: usize) -> Body
-    ensures { λ r. ⌜ bodyOf r ≡ bodyAt table 0xaf (now (s .entry)) at ⌝ }
+    ensures { λ r. ⌜ bodyOf r ≡ frameBodyAt table 0xaf (now (s .entry)) at ⌝ }
 {
     let VarRead::Var(sequence, p) = coding::get_var(s, at) else {
         return Body::Refused(Refusal::UnexpectedEnd);
@@ -397,37 +398,37 @@ fn ack_frequency(s: &[u8], at: usize) -> Body
 // One decision over the type's number.
 pub(crate) fn read_body(s: &[u8], at: usize, ty: FrameType) -> Body
     requires { ⌜ length (now s) ≤ 65527 ⌝ }
-    ensures { λ r. ⌜ bodyOf r ≡ bodyAt table (ty .0) (now (s .entry)) at ⌝ }
+    ensures { λ r. ⌜ bodyOf r ≡ frameBodyAt table (ty .0) (now (s .entry)) at ⌝ }
 {
     let t = ty.0;
     match t {
-        0x00 => Body::Done(Frame::Padding, at),
-        0x01 => Body::Done(Frame::Ping, at),
-        0x02 => ack(s, at, false),
-        0x03 => ack(s, at, true),
-        0x04 => reset_stream(s, at),
-        0x05 => stop_sending(s, at),
-        0x06 => crypto(s, at),
-        0x07 => new_token(s, at),
-        0x08..=0x0f => stream(s, at, t),
-        0x10 => max_data(s, at),
-        0x11 => max_stream_data(s, at),
-        0x12 => max_streams(s, at, Dir::Bi),
-        0x13 => max_streams(s, at, Dir::Uni),
-        0x14 => data_blocked(s, at),
-        0x15 => stream_data_blocked(s, at),
-        0x16 => streams_blocked(s, at, Dir::Bi),
-        0x17 => streams_blocked(s, at, Dir::Uni),
-        0x18 => new_connection_id(s, at),
-        0x19 => retire_connection_id(s, at),
-        0x1a => path_challenge(s, at),
-        0x1b => path_response(s, at),
-        0x1c => connection_close(s, at),
-        0x1d => application_close(s, at),
-        0x1e => Body::Done(Frame::HandshakeDone, at),
-        0x1f => Body::Done(Frame::ImmediateAck, at),
-        0x30..=0x31 => datagram(s, at, t),
-        0xaf => ack_frequency(s, at),
+        types::PADDING => Body::Done(Frame::Padding, at),
+        types::PING => Body::Done(Frame::Ping, at),
+        types::ACK => ack(s, at, false),
+        types::ACK_ECN => ack(s, at, true),
+        types::RESET_STREAM => reset_stream(s, at),
+        types::STOP_SENDING => stop_sending(s, at),
+        types::CRYPTO => crypto(s, at),
+        types::NEW_TOKEN => new_token(s, at),
+        types::STREAM_FIRST..=types::STREAM_LAST => stream(s, at, t),
+        types::MAX_DATA => max_data(s, at),
+        types::MAX_STREAM_DATA => max_stream_data(s, at),
+        types::MAX_STREAMS_BIDI => max_streams(s, at, Dir::Bi),
+        types::MAX_STREAMS_UNI => max_streams(s, at, Dir::Uni),
+        types::DATA_BLOCKED => data_blocked(s, at),
+        types::STREAM_DATA_BLOCKED => stream_data_blocked(s, at),
+        types::STREAMS_BLOCKED_BIDI => streams_blocked(s, at, Dir::Bi),
+        types::STREAMS_BLOCKED_UNI => streams_blocked(s, at, Dir::Uni),
+        types::NEW_CONNECTION_ID => new_connection_id(s, at),
+        types::RETIRE_CONNECTION_ID => retire_connection_id(s, at),
+        types::PATH_CHALLENGE => path_challenge(s, at),
+        types::PATH_RESPONSE => path_response(s, at),
+        types::CONNECTION_CLOSE => connection_close(s, at),
+        types::APPLICATION_CLOSE => application_close(s, at),
+        types::HANDSHAKE_DONE => Body::Done(Frame::HandshakeDone, at),
+        types::IMMEDIATE_ACK => Body::Done(Frame::ImmediateAck, at),
+        types::DATAGRAM_FIRST..=types::DATAGRAM_LAST => datagram(s, at, t),
+        types::ACK_FREQUENCY => ack_frequency(s, at),
         _ => Body::Refused(Refusal::InvalidFrameId),
     }
 }

@@ -6,11 +6,12 @@ use coding::U8Read;
 use coding::VarInt;
 use coding::VarRead;
 use shared::FullNumber;
+use shared::MAX_CID_SIZE;
 ghost use mathlib.Core.Path.{_≡_};
 ghost use Prim.Native.Nat.{_<_, _≤_, _^_};
 ghost use lib.ListN.{length};
 ghost use Rattle.coding.specs.Said.{varOf, placeOf};
-ghost use Rattle.frame.specs.Format.{bytesAt, restAt, cidAt, blocksAt, varIf, dataIf, bit};
+ghost use Rattle.frame.specs.Format.{bytesAt, allLeftAt, cidAt, blocksAt, varIf, dataIf, bit};
 ghost use Rattle.frame.specs.Said.{fieldOf};
 
 // A part of the payload and the place past it, or why there is none.
@@ -31,7 +32,7 @@ pub(crate) fn take_len(s: &[u8], at: usize) -> PlaceRead
 
 // All that is left.
 pub(crate) fn take_remaining(s: &[u8], at: usize) -> PlaceRead
-    ensures { λ r. ⌜ placeOf r ≡ restAt (now (s .entry)) at ⌝ }
+    ensures { λ r. ⌜ placeOf r ≡ allLeftAt (now (s .entry)) at ⌝ }
 {
     if s.len() < at {
         return PlaceRead::End;
@@ -49,7 +50,7 @@ pub(crate) fn cid(s: &[u8], at: usize) -> Field
     if length == 0 {
         return Field::Refused(Refusal::Malformed);
     }
-    if 20 < length {
+    if MAX_CID_SIZE < length as usize {
         return Field::Refused(Refusal::Malformed);
     }
     let PlaceRead::At(id, next) = coding::take(s, p, length as u64) else {

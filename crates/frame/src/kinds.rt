@@ -5,10 +5,11 @@ use shared::Dir;
 use shared::FrameType;
 use shared::FullNumber;
 use shared::StreamId;
+use shared::types;
 ghost use mathlib.Core.Path.{_≡_};
 ghost use Prim.Native.Nat.{_+_};
 ghost use Rattle.shared.specs.Said.{dirBit};
-ghost use Rattle.frame.specs.Types.{typeOf, ackEliciting};
+ghost use Rattle.frame.specs.Types.{frameTypeOf, ackEliciting};
 ghost use Rattle.frame.specs.Said.{closeSaid, frameSaid};
 
 // A frame's type, where there is one.
@@ -125,7 +126,7 @@ pub enum Frame {
 
 // The type of a stream frame, with no length.
 fn stream_type(x: Stream) -> FrameType
-    ensures { λ r. ⌜ r .0 ≡ typeOf (frameSaid (Frame.Stream x)) ⌝ }
+    ensures { λ r. ⌜ r .0 ≡ frameTypeOf (frameSaid (Frame.Stream x)) ⌝ }
 {
     if x.offset == 0 {
         if x.fin {
@@ -158,7 +159,7 @@ fn streams_blocked_type(dir: Dir) -> FrameType
 }
 
 fn close_type(close: Close) -> FrameType
-    ensures { λ r. ⌜ r .0 ≡ typeOf (closeSaid close) ⌝ }
+    ensures { λ r. ⌜ r .0 ≡ frameTypeOf (closeSaid close) ⌝ }
 {
     match close {
         Close::Connection(_) => FrameType::CONNECTION_CLOSE,
@@ -169,7 +170,7 @@ fn close_type(close: Close) -> FrameType
 impl Frame {
     // The type that stands for the frame; a stream's says nothing of a length.
     pub fn ty(self) -> FrameType
-        ensures { λ r. ⌜ r .0 ≡ typeOf (frameSaid self) ⌝ }
+        ensures { λ r. ⌜ r .0 ≡ frameTypeOf (frameSaid self) ⌝ }
     {
         match self {
             Frame::Padding => FrameType::PADDING,
@@ -191,7 +192,7 @@ impl Frame {
             Frame::NewConnectionId(_) => FrameType::NEW_CONNECTION_ID,
             Frame::Crypto(_) => FrameType::CRYPTO,
             Frame::NewToken(_) => FrameType::NEW_TOKEN,
-            Frame::Datagram(_) => FrameType(0x30),
+            Frame::Datagram(_) => FrameType(types::DATAGRAM_FIRST),
             Frame::AckFrequency(_) => FrameType::ACK_FREQUENCY,
             Frame::ImmediateAck => FrameType::IMMEDIATE_ACK,
             Frame::HandshakeDone => FrameType::HANDSHAKE_DONE,

@@ -29,7 +29,7 @@ ghost use Prim.Native.Nat.{_-_, _≤_};
 ghost use lib.ListN.{length};
 ghost use Rattle.frame.specs.Table.{table, frameAt};
 ghost use Rattle.frame.specs.Walk.{stepAt, sized};
-ghost use Rattle.frame.specs.Said.{saidOf, stepOf, sizedOf};
+ghost use Rattle.frame.specs.Said.{saidOf, stepOf, sizedStepOf};
 
 // A frame, its type as it was read, and the place past it; or a refusal, with the frame's start and its type once read.
 pub enum FrameRead {
@@ -114,7 +114,7 @@ fn less(a: usize, b: usize) -> usize
 
 // A step and its size; a refused frame takes all that is left.
 pub fn next_with_size(payload: &[u8], at: usize) -> SizedStep
-    ensures { λ r. ⌜ sizedOf r ≡ sized table (now (payload .entry)) at ⌝ }
+    ensures { λ r. ⌜ sizedStepOf r ≡ sized table (now (payload .entry)) at ⌝ }
 {
     let step = step(payload, at);
     let len = payload.len();

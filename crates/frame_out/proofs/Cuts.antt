@@ -1,4 +1,4 @@
--- The cases of a close: what max leaves of the reason, and which arguments are refused. Assumes nothing.
+-- The cases of a close: what max leaves of the reason, and which arguments are refused.
 use mathlib.Core.Path.{_≡_, refl, ap, _∙_}
 use mathlib.Core.List.{List, [], _∷_}
 use mathlib.Core.Bool.{Bool, true, false}
@@ -14,10 +14,10 @@ use Rattle.coding.specs.Writing.{lengthOf}
 use Rattle.coding.specs.declared.refusal.Refusal.{Refusal}
 use Rattle.coding.specs.declared.varint.Sized.{Sized}
 use Rattle.coding.specs.declared.varint.Sized.the-variants as sized
-use Rattle.row_out.specs.Writing.{Word, numberIn}
+use Rattle.row_out.specs.Writing.{Word, wordNumber}
 use Rattle.row_out.specs.Limits.{varsOut}
 use Rattle.row_out.proofs.Laws.{below-not, out-past}
-use Rattle.frame_out.specs.Closes.{Closing, connection, application, fixedFields, cutTo, closeWith, closeOut}
+use Rattle.frame_out.specs.Closes.{Closing, connection, application, fixedFields, reasonCut, closeWith, closeOut}
 use Rattle.frame_out.proofs.Vals.{connection-vals, application-vals}
 
 -- ---- what is left of the reason
@@ -28,22 +28,22 @@ take-again (suc k) [] = refl
 take-again (suc k) (x ∷ l) = ap (λ (r : List ℕ). x ∷ r) (take-again k l)
 
 module _ (fixed max : ℕ) (reason : List ℕ) where
-  pub cut-past : 2 ^ 62 ≤ length reason → cutTo fixed max reason ≡ no 14
-  unfolding cutTo if_then_else_
+  pub cut-past : 2 ^ 62 ≤ length reason → reasonCut fixed max reason ≡ no 14
+  unfolding reasonCut if_then_else_
   cut-past h = rw (le-ltb (length reason) (2 ^ 62) h)
 
   module _ (small : length reason < 2 ^ 62) where
-    pub cut-short : max < fixed → cutTo fixed max reason ≡ no 14
-    unfolding cutTo if_then_else_
+    pub cut-short : max < fixed → reasonCut fixed max reason ≡ no 14
+    unfolding reasonCut if_then_else_
     cut-short h = rw (lt-ltb (length reason) (2 ^ 62) small, lt-leb fixed max h)
 
-    pub cut-some : fixed ≤ max → cutTo fixed max reason ≡ ok (take (max - fixed) reason)
-    unfolding cutTo if_then_else_
+    pub cut-some : fixed ≤ max → reasonCut fixed max reason ≡ ok (take (max - fixed) reason)
+    unfolding reasonCut if_then_else_
     cut-some h = rw (lt-ltb (length reason) (2 ^ 62) small, le-leb fixed max h)
 
   -- what holds of each way holds of the cut
-  cut-all : (P : Answer (List ℕ) → Type 0) → P (no 14) → ((k : ℕ) → P (ok (take k reason))) → P (cutTo fixed max reason)
-  unfolding cutTo if_then_else_
+  cut-all : (P : Answer (List ℕ) → Type 0) → P (no 14) → ((k : ℕ) → P (ok (take k reason))) → P (reasonCut fixed max reason)
+  unfolding reasonCut if_then_else_
   cut-all P z f = go (ltb (length reason) (2 ^ 62)) (leb fixed max)
     where
       go : (t u : Bool) → P (if t then (if u then ok (take (max - fixed) reason) else no 14) else no 14)
@@ -52,8 +52,8 @@ module _ (fixed max : ℕ) (reason : List ℕ) where
       go false u = z
 
   -- what a known length says
-  module _ (r : Sized) (e : sizedOf r ≡ lengthOf (cutTo fixed max reason)) where
-    pub cut-kept : (n : ℕ) → r ≡ sized.Bytes n → (cutTo fixed max reason ≡ ok (take n reason)) × (n ≤ length reason)
+  module _ (r : Sized) (e : sizedOf r ≡ lengthOf (reasonCut fixed max reason)) where
+    pub cut-kept : (n : ℕ) → r ≡ sized.Bytes n → (reasonCut fixed max reason ≡ ok (take n reason)) × (n ≤ length reason)
     unfolding sizedOf lengthOf
     cut-kept n q = cut-all (λ (w : Answer (List ℕ)). ok n ≡ lengthOf w → (w ≡ ok (take n reason)) × (n ≤ length reason)) none some (rw q at e)
       where
@@ -65,7 +65,7 @@ module _ (fixed max : ℕ) (reason : List ℕ) where
             let i : n ≡ length (take k reason) = cc in
             (rw i (rw (take-again k reason)), omega (arith, i, length-take k reason))
 
-    pub cut-not : (why : Refusal) → r ≡ sized.Refused why → cutTo fixed max reason ≡ no 14
+    pub cut-not : (why : Refusal) → r ≡ sized.Refused why → reasonCut fixed max reason ≡ no 14
     unfolding sizedOf lengthOf
     cut-not why q = cut-all (λ (w : Answer (List ℕ)). no (numberOf why) ≡ lengthOf w → w ≡ no 14) (λ h. refl) some (rw q at e)
       where
@@ -73,8 +73,8 @@ module _ (fixed max : ℕ) (reason : List ℕ) where
         some k h = let z : _≡_ {A = ℕ} 0 1 = cc in absurd (omega arith)
 
   -- what was cut
-  pub cut-seen : (d : List ℕ) → cutTo fixed max reason ≡ ok d → ((length reason < 2 ^ 62) × (fixed ≤ max)) × (d ≡ take (max - fixed) reason)
-  unfolding cutTo if_then_else_
+  pub cut-seen : (d : List ℕ) → reasonCut fixed max reason ≡ ok d → ((length reason < 2 ^ 62) × (fixed ≤ max)) × (d ≡ take (max - fixed) reason)
+  unfolding reasonCut if_then_else_
   cut-seen d = go (ltb (length reason) (2 ^ 62)) (leb fixed max) refl refl
     where
       go : (t u : Bool) → ltb (length reason) (2 ^ 62) ≡ t → leb fixed max ≡ u → (if t then (if u then ok (take (max - fixed) reason) else no 14) else no 14) ≡ ok d
@@ -86,17 +86,17 @@ module _ (fixed max : ℕ) (reason : List ℕ) where
 -- ---- the closes
 
 module _ (reason : List ℕ) (max : ℕ) where
-  pub close-not : (c : Closing) → cutTo (fixedFields c (length reason)) max reason ≡ no 14 → closeOut c reason max ≡ no 14
+  pub close-not : (c : Closing) → reasonCut (fixedFields c (length reason)) max reason ≡ no 14 → closeOut c reason max ≡ no 14
   unfolding closeOut closeWith
   close-not c e = rw e
 
   -- an integer past its limit is refused, whatever is left of the reason
-  pub type-past : (code : ℕ) (ty : Word) → 2 ^ 62 ≤ numberIn ty → closeOut (connection code ty) reason max ≡ no 14
+  pub type-past : (code : ℕ) (ty : Word) → 2 ^ 62 ≤ wordNumber ty → closeOut (connection code ty) reason max ≡ no 14
   unfolding closeOut closeWith
   type-past code ty h =
       cut-all (fixedFields (connection code ty) (length reason)) max reason (λ (w : Answer (List ℕ)). closeWith (connection code ty) w ≡ no 14) refl
       (λ k. let d = take k reason in
-      connection-vals code ty d ∙ out-past (0x1c ∷ code ∷ numberIn ty ∷ length d ∷ []) d (below-not (0x1c ∷ code ∷ numberIn ty ∷ length d ∷ []) 2 (omega arith) h))
+      connection-vals code ty d ∙ out-past (0x1c ∷ code ∷ wordNumber ty ∷ length d ∷ []) d (below-not (0x1c ∷ code ∷ wordNumber ty ∷ length d ∷ []) 2 (omega arith) h))
 
   pub code-past : (code : ℕ) → 2 ^ 62 ≤ code → closeOut (application code) reason max ≡ no 14
   unfolding closeOut closeWith
@@ -110,12 +110,12 @@ module _ (reason : List ℕ) (max : ℕ) where
     kept-long : length (take n reason) ≡ n
     kept-long = simp length-take (omega arith)
 
-    pub connection-kept : (code : ℕ) (ty : Word) → cutTo (fixedFields (connection code ty) (length reason)) max reason ≡ ok (take n reason)
-        → closeOut (connection code ty) reason max ≡ varsOut (0x1c ∷ code ∷ numberIn ty ∷ n ∷ []) (take n reason)
+    pub connection-kept : (code : ℕ) (ty : Word) → reasonCut (fixedFields (connection code ty) (length reason)) max reason ≡ ok (take n reason)
+        → closeOut (connection code ty) reason max ≡ varsOut (0x1c ∷ code ∷ wordNumber ty ∷ n ∷ []) (take n reason)
     unfolding closeOut closeWith
     connection-kept code ty e = rw e (connection-vals code ty (take n reason) ∙ rw kept-long)
 
-    pub application-kept : (code : ℕ) → cutTo (fixedFields (application code) (length reason)) max reason ≡ ok (take n reason)
+    pub application-kept : (code : ℕ) → reasonCut (fixedFields (application code) (length reason)) max reason ≡ ok (take n reason)
         → closeOut (application code) reason max ≡ varsOut (0x1d ∷ code ∷ n ∷ []) (take n reason)
     unfolding closeOut closeWith
     application-kept code e = rw e (application-vals code (take n reason) ∙ rw kept-long)
@@ -128,9 +128,9 @@ pub record Cut (c : Closing) (reason : List ℕ) (max : ℕ) (bs : List ℕ) : T
 
 pub close-seen : (c : Closing) (reason : List ℕ) (max : ℕ) (bs : List ℕ) → closeOut c reason max ≡ ok bs → Cut c reason max bs
 unfolding closeOut closeWith
-close-seen c reason max bs = go (cutTo (fixedFields c (length reason)) max reason) refl
+close-seen c reason max bs = go (reasonCut (fixedFields c (length reason)) max reason) refl
   where
-    go : (w : Answer (List ℕ)) → cutTo (fixedFields c (length reason)) max reason ≡ w → closeWith c w ≡ ok bs → Cut c reason max bs
+    go : (w : Answer (List ℕ)) → reasonCut (fixedFields c (length reason)) max reason ≡ w → closeWith c w ≡ ok bs → Cut c reason max bs
     go (no k) e h = let z : _≡_ {A = ℕ} 0 1 = cc in absurd (omega arith)
     go (ok d) e h =
         let s = cut-seen (fixedFields c (length reason)) max reason d e in

@@ -1,4 +1,4 @@
--- Only one answer, and only one content of a lent buffer, meets the contract of each public function. Assumes nothing.
+-- Only one answer, and only one content of a lent buffer, meets the contract of each public function.
 use mathlib.Core.Path.{_∙_, sym}
 use mathlib.Core.List.{List}
 use Prim.Native.Nat.{ℕ}
@@ -48,6 +48,8 @@ use Rattle.frame_out.proofs.datagram as datagram
 use Rattle.frame_out.proofs.datagram.Reads as datagram-reads
 use Rattle.frame_out.proofs.datagram_size as datagram-size
 use Rattle.frame_out.proofs.datagram_size.Reads as datagram-size-reads
+use Rattle.frame_out.proofs.size_bounds as size-bounds
+use Rattle.frame_out.proofs.size_bounds.Reads as size-bounds-reads
 use Rattle.frame_out.proofs.ack_frequency as ack-frequency
 use Rattle.frame_out.proofs.ack_frequency.Reads as ack-frequency-reads
 
@@ -134,3 +136,7 @@ datagram-size-once κs a x y s t p q = sized-one x y _ p q
 ack-frequency-once : Once {B = Wrote × List ℕ} ack-frequency.ended ack-frequency-reads.Post (λ κs x s. (x, now (s .1 .0)))
 unfolding Once
 ack-frequency-once κs a x y s t p q = one-written _ _ x y _ _ p q
+
+size-bounds-once : Once size-bounds.ended size-bounds-reads.Post (λ κs x s. x)
+unfolding Once
+size-bounds-once κs a x y s t p q = p ∙ sym q

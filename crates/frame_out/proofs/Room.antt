@@ -1,5 +1,5 @@
 -- A close is no longer than its max; the transport's with an error code of 16,384 or more passes it by at most six bytes.
--- Assumes nothing.
+--
 use mathlib.Core.Path.{_≡_, sym, _∙_}
 use mathlib.Core.List.{List, [], _∷_}
 use mathlib.Core.Bool.{Bool, true, false}
@@ -12,7 +12,7 @@ use borrow.Author.Tests.{lt-ltb}
 use Rattle.coding.specs.Words.{if_then_else_, ok}
 use Rattle.coding.specs.Varint.{varTag, varSize}
 use Rattle.coding.proofs.Laws.{fits-tag, length-var, size-le}
-use Rattle.row_out.specs.Writing.{Word, numberIn}
+use Rattle.row_out.specs.Writing.{Word, wordNumber}
 use Rattle.row_out.specs.Limits.{varsBytes}
 use Rattle.row_out.proofs.Laws.{below-at, out-seen}
 use Rattle.frame_out.specs.Closes.{connection, application, fixedFields, closeWith, closeOut}
@@ -60,11 +60,11 @@ module _ (reason : List ℕ) (max : ℕ) (bs : List ℕ) where
   unfolding closeWith fixedFields varsBytes
   connection-long code ty e =
       let c = close-seen (connection code ty) reason max bs e in
-      let left : ℕ = max - (3 + varSize (numberIn ty) + varSize (length reason)) in
+      let left : ℕ = max - (3 + varSize (wordNumber ty) + varSize (length reason)) in
       let d : List ℕ = take left reason in
-      let ys : List ℕ = 0x1c ∷ code ∷ numberIn ty ∷ length d ∷ [] in
+      let ys : List ℕ = 0x1c ∷ code ∷ wordNumber ty ∷ length d ∷ [] in
       let s = out-seen ys d bs (sym (connection-vals code ty d) ∙ c .frame) in
-      let all : length bs ≡ varSize 0x1c + varSize code + varSize (numberIn ty) + varSize (length d) + length d
+      let all : length bs ≡ varSize 0x1c + varSize code + varSize (wordNumber ty) + varSize (length d) + length d
       = rw (← s .same) (simp (length-append, length-var) (omega arith)) in
       let n : length d ≤ length reason = omega (arith, length-take left reason) in
       let m = size-mono (length d) (length reason) n (c .small) in

@@ -1,4 +1,4 @@
--- What each encoder's code hands on, integers and then bytes, makes the bytes of its row. Assumes nothing.
+-- What each encoder's code hands on, integers and then bytes, makes the bytes of its row.
 use mathlib.Core.Path.{_≡_, refl}
 use mathlib.Core.List.{List, [], _∷_, _++_, append-assoc, append-nil}
 use mathlib.Core.Bool.{Bool, true, false}
@@ -15,8 +15,8 @@ use Rattle.shared.specs.Cid.{cidBytes, longBytes, longPut}
 use Rattle.shared.specs.declared.cid.ConnectionId.{ConnectionId}
 use Rattle.shared.proofs.Laws.{length-long, long-some}
 use Rattle.frame.specs.Table.{table}
-use Rattle.row_out.specs.Writing.{Word, number, raw, nothing, numberIn, fieldBytes, rowBytes, frameBytes}
-use Rattle.row_out.specs.Limits.{below62, limited, numbersIn, frameOut, varsBytes, varsOut, stored}
+use Rattle.row_out.specs.Writing.{Word, number, raw, nothing, wordNumber, fieldBytes, rowBytes, frameBytes}
+use Rattle.row_out.specs.Limits.{below62, limited, wordNumbers, frameOut, varsBytes, varsOut, stored}
 use Rattle.row_out.proofs.Laws.{below-at, below-not, vars-bound, limited-past, limited-seen, Held, out-ok, vals-same}
 use Rattle.frame_out.specs.Frames.{ecnOut, streamType, streamWords, metaBytes, metaOut, cryptoOut, newTokenOut, resetStreamOut, stopSendingOut, newCidOut, datagramOut, ackFrequencyOut}
 use Rattle.frame_out.specs.Closes.{connection}
@@ -26,23 +26,23 @@ unfolding ecnOut rowBytes fieldBytes varsBytes
 ecn-vals a b c = vals-same _ _ _ _ (simp (append-assoc, append-nil)) (λ h. refl)
 
 pub crypto-vals : (offset : ℕ) (d : List ℕ) → cryptoOut offset d ≡ varsOut (0x06 ∷ offset ∷ length d ∷ []) d
-unfolding cryptoOut frameOut frameBytes table rowBytes fieldBytes numbersIn varsBytes below62 if_then_else_
+unfolding cryptoOut frameOut frameBytes table rowBytes fieldBytes wordNumbers varsBytes below62 if_then_else_
 crypto-vals offset d = vals-same _ _ _ _ (simp (append-assoc, append-nil)) (λ h. rw (lt-ltb (length d) (2 ^ 62) (omega arith)))
 
 pub token-vals : (d : List ℕ) → newTokenOut d ≡ varsOut (0x07 ∷ length d ∷ []) d
-unfolding newTokenOut frameOut frameBytes table rowBytes fieldBytes numbersIn varsBytes below62 if_then_else_
+unfolding newTokenOut frameOut frameBytes table rowBytes fieldBytes wordNumbers varsBytes below62 if_then_else_
 token-vals d = vals-same _ _ _ _ (simp (append-assoc, append-nil)) (λ h. rw (lt-ltb (length d) (2 ^ 62) (omega arith)))
 
 pub reset-vals : (id code size : ℕ) → resetStreamOut id code size ≡ varsOut (0x04 ∷ id ∷ code ∷ size ∷ []) []
-unfolding resetStreamOut frameOut frameBytes table rowBytes fieldBytes numbersIn varsBytes below62 if_then_else_
+unfolding resetStreamOut frameOut frameBytes table rowBytes fieldBytes wordNumbers varsBytes below62 if_then_else_
 reset-vals id code size = vals-same _ _ _ _ (simp (append-assoc, append-nil)) (λ h. refl)
 
 pub stop-vals : (id code : ℕ) → stopSendingOut id code ≡ varsOut (0x05 ∷ id ∷ code ∷ []) []
-unfolding stopSendingOut frameOut frameBytes table rowBytes fieldBytes numbersIn varsBytes below62 if_then_else_
+unfolding stopSendingOut frameOut frameBytes table rowBytes fieldBytes wordNumbers varsBytes below62 if_then_else_
 stop-vals id code = vals-same _ _ _ _ (simp (append-assoc, append-nil)) (λ h. refl)
 
 pub frequency-vals : (a b c d : ℕ) → ackFrequencyOut a b c d ≡ varsOut (0xaf ∷ a ∷ b ∷ c ∷ d ∷ []) []
-unfolding ackFrequencyOut frameOut frameBytes table rowBytes fieldBytes numbersIn varsBytes below62 if_then_else_
+unfolding ackFrequencyOut frameOut frameBytes table rowBytes fieldBytes wordNumbers varsBytes below62 if_then_else_
 frequency-vals a b c d = vals-same _ _ _ _ (simp (append-assoc, append-nil)) (λ h. refl)
 
 -- ---- a datagram, with its length and without
@@ -52,21 +52,21 @@ datagramVals true n = 0x31 ∷ n ∷ []
 datagramVals false n = 0x30 ∷ []
 
 pub datagram-vals : (len : Bool) (d : List ℕ) → datagramOut len d ≡ varsOut (datagramVals len (length d)) d
-unfolding datagramOut frameOut frameBytes table rowBytes fieldBytes numbersIn varsBytes below62 if_then_else_
+unfolding datagramOut frameOut frameBytes table rowBytes fieldBytes wordNumbers varsBytes below62 if_then_else_
 datagram-vals true d = vals-same _ _ _ _ (simp (append-assoc, append-nil)) (λ h. rw (lt-ltb (length d) (2 ^ 62) (omega arith)))
 datagram-vals false d = vals-same _ _ _ _ (simp append-nil) (λ h. refl)
 
 -- ---- a close, of a reason that is cut
 
 pub connection-vals : (code : ℕ) (ty : Word) (d : List ℕ)
-    → frameOut table 0x1c (number code ∷ ty ∷ raw d ∷ []) ≡ varsOut (0x1c ∷ code ∷ numberIn ty ∷ length d ∷ []) d
-unfolding frameOut frameBytes table rowBytes fieldBytes numbersIn varsBytes below62 if_then_else_
+    → frameOut table 0x1c (number code ∷ ty ∷ raw d ∷ []) ≡ varsOut (0x1c ∷ code ∷ wordNumber ty ∷ length d ∷ []) d
+unfolding frameOut frameBytes table rowBytes fieldBytes wordNumbers varsBytes below62 if_then_else_
 connection-vals code (number n) d = vals-same _ _ _ _ (simp (append-assoc, append-nil)) (λ h. rw (lt-ltb (length d) (2 ^ 62) (omega arith)))
 connection-vals code (raw bs) d = vals-same _ _ _ _ (simp (append-assoc, append-nil)) (λ h. rw (lt-ltb (length d) (2 ^ 62) (omega arith)))
 connection-vals code nothing d = vals-same _ _ _ _ (simp (append-assoc, append-nil)) (λ h. rw (lt-ltb (length d) (2 ^ 62) (omega arith)))
 
 pub application-vals : (code : ℕ) (d : List ℕ) → frameOut table 0x1d (number code ∷ raw d ∷ []) ≡ varsOut (0x1d ∷ code ∷ length d ∷ []) d
-unfolding frameOut frameBytes table rowBytes fieldBytes numbersIn varsBytes below62 if_then_else_
+unfolding frameOut frameBytes table rowBytes fieldBytes wordNumbers varsBytes below62 if_then_else_
 application-vals code d = vals-same _ _ _ _ (simp (append-assoc, append-nil)) (λ h. rw (lt-ltb (length d) (2 ^ 62) (omega arith)))
 
 -- ---- a stream frame up to its data
@@ -146,7 +146,7 @@ module _ (sequence retire : ℕ) (id : ConnectionId) (token : List ℕ) (ordered
   cid-frame = rw (le-ltb sequence retire ordered, ne-eqb (id .len) 0 some, le-ltb 20 (id .len) short)
 
   pub cid-vals : length (cidBytes id) ≡ id .len → newCidOut sequence retire id token ≡ varsOut (0x18 ∷ sequence ∷ retire ∷ []) (longBytes id ++ token)
-  unfolding longBytes frameOut frameBytes table rowBytes fieldBytes numbersIn varsBytes below62 if_then_else_
+  unfolding longBytes frameOut frameBytes table rowBytes fieldBytes wordNumbers varsBytes below62 if_then_else_
   cid-vals e = rw (cid-frame, e) (vals-same _ _ _ _ (simp (append-assoc, append-nil)) (λ q. refl))
 
 -- what was written keeps all rules

@@ -7,7 +7,7 @@ use lib.Dec.{ltb, leb}
 use Rattle.coding.specs.Words.{if_then_else_, Answer, no, ok}
 use Rattle.coding.specs.Varint.{varSize}
 use Rattle.frame.specs.Table.{table}
-use Rattle.row_out.specs.Writing.{Word, number, raw, numberIn}
+use Rattle.row_out.specs.Writing.{Word, number, raw, wordNumber}
 use Rattle.row_out.specs.Limits.{frameOut}
 
 -- the transport's, with its error code and the frame type that caused it, or nothing; the application's, with its error code
@@ -22,12 +22,12 @@ isConnection (application code) = false
 -- what is taken off max for the fields beside a reason of n bytes: the type, two bytes for the transport's error code, the other
 -- integers by their sizes, and the size of the whole reason's length
 unfoldable pub fixedFields : Closing → ℕ → ℕ
-fixedFields (connection code ty) n = 3 + varSize (numberIn ty) + varSize n
+fixedFields (connection code ty) n = 3 + varSize (wordNumber ty) + varSize n
 fixedFields (application code) n = 1 + varSize code + varSize n
 
 -- the reason is cut to what is left; 14 where the fixed fields are more than max, or the reason's length is no integer
-unfoldable pub cutTo : ℕ → ℕ → List ℕ → Answer (List ℕ)
-cutTo fixed max reason =
+unfoldable pub reasonCut : ℕ → ℕ → List ℕ → Answer (List ℕ)
+reasonCut fixed max reason =
     if ltb (length reason) (2 ^ 62) then
     (if leb fixed max then ok (take (max - fixed) reason) else no 14)
     else no 14
@@ -38,4 +38,4 @@ closeWith (connection code ty) (ok reason) = frameOut table 0x1c (number code �
 closeWith (application code) (ok reason) = frameOut table 0x1d (number code ∷ raw reason ∷ [])
 
 unfoldable pub closeOut : Closing → List ℕ → ℕ → Answer (List ℕ)
-closeOut c reason max = closeWith c (cutTo (fixedFields c (length reason)) max reason)
+closeOut c reason max = closeWith c (reasonCut (fixedFields c (length reason)) max reason)

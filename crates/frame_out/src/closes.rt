@@ -11,8 +11,8 @@ ghost use lib.ListN.{length};
 ghost use Rattle.coding.specs.Said.{sizedOf, wroteOf};
 ghost use Rattle.coding.specs.Varint.{varSize};
 ghost use Rattle.coding.specs.Writing.{lengthOf, Written};
-ghost use Rattle.row_out.specs.Writing.{numberIn};
-ghost use Rattle.frame_out.specs.Closes.{connection, application, isConnection, cutTo, closeOut};
+ghost use Rattle.row_out.specs.Writing.{wordNumber};
+ghost use Rattle.frame_out.specs.Closes.{connection, application, isConnection, reasonCut, closeOut};
 ghost use Rattle.frame_out.specs.Said.{typeWord, closingOf};
 
 // The smallest number of bytes that each is guaranteed to fit within, besides its reason.
@@ -48,7 +48,7 @@ impl CloseKind {
 // How much of a reason max_len leaves, beside the fields of `fixed` bytes and the size of the whole reason's length; or 14.
 fn kept(fixed: usize, reason: &[u8], max_len: usize) -> Sized
     requires { ⌜ fixed ≤ 11 ⌝ }
-    ensures { λ r. ⌜ sizedOf r ≡ lengthOf (cutTo (fixed + varSize (length (now (reason .entry)))) «max_len» (now (reason .entry))) ⌝ }
+    ensures { λ r. ⌜ sizedOf r ≡ lengthOf (reasonCut (fixed + varSize (length (now (reason .entry)))) «max_len» (now (reason .entry))) ⌝ }
 {
     let len = reason.len();
     let Sized::Bytes(n) = VarInt(len as u64).size() else {
@@ -66,7 +66,7 @@ fn kept(fixed: usize, reason: &[u8], max_len: usize) -> Sized
 
 // The frame type that is written: 0 for none.
 fn number_of(frame_type: TypeRead) -> u64
-    ensures { λ r. ⌜ r ≡ numberIn (typeWord «frame_type») ⌝ }
+    ensures { λ r. ⌜ r ≡ wordNumber (typeWord «frame_type») ⌝ }
 {
     match frame_type {
         TypeRead::Type(ty) => ty.0,

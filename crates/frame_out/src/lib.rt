@@ -27,7 +27,9 @@ use frame::StopSending;
 use shared::ConnectionId;
 use shared::FrameType;
 use shared::MAX_CID_SIZE;
+use shared::NUMBER_END;
 use shared::StreamId;
+use shared::types;
 ghost use mathlib.Core.Path.{_≡_};
 ghost use mathlib.Core.List.{_++_};
 ghost use Prim.Native.Nat.{_≤_};
@@ -38,9 +40,10 @@ ghost use Rattle.coding.specs.Said.{sizedOf, wroteOf};
 ghost use Rattle.coding.specs.Writing.{lengthOf, Written};
 ghost use Rattle.shared.specs.Cid.{longBytes};
 ghost use Rattle.row_out.specs.Limits.{varsOut};
+ghost use Rattle.frame_out.specs.Bounds.{sizeBounds};
 ghost use Rattle.frame_out.specs.Frames.{ecnOut, streamType, metaOut, cryptoOut, newTokenOut, resetStreamOut, stopSendingOut, newCidOut, datagramOut, ackFrequencyOut};
 
-// The smallest number of bytes that a frame is guaranteed to fit within, besides its data, is its SIZE_BOUND.
+// The smallest number of bytes that a frame is guaranteed to fit within, besides its data, is its SIZE_BOUND; `size_bounds` has all.
 pub const STREAM_SIZE_BOUND: usize = 1 + 8 + 8 + 8;
 
 // A stream frame without its data, which lies from `start` to `end`.
@@ -49,15 +52,6 @@ pub struct StreamMeta {
     pub start: u64,
     pub end: u64,
     pub fin: bool,
-}
-
-impl StreamMeta {
-    pub const DEFAULT: StreamMeta = StreamMeta {
-        id: StreamId(0),
-        start: 0,
-        end: 0,
-        fin: false,
-    };
 }
 
 // The ECN counts of an ACK.
@@ -75,7 +69,7 @@ fn offset_bit(start: u64) -> u64
     if start == 0 {
         return 0;
     }
-    4
+    types::OFF
 }
 
 // A bit of the type, where it stands.
@@ -86,31 +80,31 @@ fn bit_if(there: bool, bit: u64) -> u64
 }
 
 // The type of a stream frame.
-fn stream_type(start: u64, fin: bool, length: bool) -> u64
-    ensures { λ r. ⌜ r ≡ streamType start fin length ⌝ }
+fn stream_type(start: u64, fin: bool, with_len: bool) -> u64
+    ensures { λ r. ⌜ r ≡ streamType start fin «with_len» ⌝ }
 {
-    0x08 + offset_bit(start) + bit_if(length, 2) + bit_if(fin, 1)
+    types::STREAM_FIRST + offset_bit(start) + bit_if(with_len, types::LEN) + bit_if(fin, types::FIN)
 }
 
-// A stream frame up to its data; `length` says whether the data's length is written.
-pub fn stream_meta(meta: StreamMeta, length: bool, out: &mut [u8]) -> Wrote
-    ensures { λ r. ⌜ Written (metaOut (meta .id .0) (meta .start) (meta .end) (meta .fin) length) (now (out .entry)) (wroteOf r) (now (out .exit)) ⌝ }
+// A stream frame up to its data; `with_len` says whether the data's length is written.
+pub fn stream_meta(meta: StreamMeta, with_len: bool, out: &mut [u8]) -> Wrote
+    ensures { λ r. ⌜ Written (metaOut (meta .id .0) (meta .start) (meta .end) (meta .fin) «with_len») (now (out .entry)) (wroteOf r) (now (out .exit)) ⌝ }
 {
     if meta.end < meta.start {
         return Wrote::Refused(Refusal::Argument);
     }
-    if 0x4000_0000_0000_0000 <= meta.end {
+    if NUMBER_END <= meta.end {
         return Wrote::Refused(Refusal::Argument);
     }
-    let ty = stream_type(meta.start, meta.fin, length);
+    let ty = stream_type(meta.start, meta.fin, with_len);
     let len = meta.end - meta.start;
     if meta.start == 0 {
-        if length {
+        if with_len {
             return row_out::frame_of(&[ty, meta.id.0, len], &[], out);
         }
         return row_out::frame_of(&[ty, meta.id.0], &[], out);
     }
-    if length {
+    if with_len {
         return row_out::frame_of(&[ty, meta.id.0, meta.start, len], &[], out);
     }
     row_out::frame_of(&[ty, meta.id.0, meta.start], &[], out)
@@ -196,7 +190,7 @@ pub fn new_connection_id(
     if id.len == 0 {
         return Wrote::Refused(Refusal::Argument);
     }
-    if 20 < id.len {
+    if MAX_CID_SIZE < id.len as usize {
         return Wrote::Refused(Refusal::Argument);
     }
     let vals = [FrameType::NEW_CONNECTION_ID.0, sequence, retire_prior_to];
@@ -206,22 +200,22 @@ pub fn new_connection_id(
 pub const DATAGRAM_SIZE_BOUND: usize = 1 + 8;
 
 // With a length, or without: then it is the last frame of its payload.
-pub fn datagram(length: bool, data: &[u8], out: &mut [u8]) -> Wrote
-    ensures { λ r. ⌜ Written (datagramOut length (now («data» .entry))) (now (out .entry)) (wroteOf r) (now (out .exit)) ⌝ }
+pub fn datagram(with_len: bool, data: &[u8], out: &mut [u8]) -> Wrote
+    ensures { λ r. ⌜ Written (datagramOut «with_len» (now («data» .entry))) (now (out .entry)) (wroteOf r) (now (out .exit)) ⌝ }
 {
-    if length {
-        return row_out::frame_of(&[0x31, data.len() as u64], data, out);
+    if with_len {
+        return row_out::frame_of(&[types::DATAGRAM_LAST, data.len() as u64], data, out);
     }
-    row_out::frame_of(&[0x30], data, out)
+    row_out::frame_of(&[types::DATAGRAM_FIRST], data, out)
 }
 
-pub fn datagram_size(length: bool, data: &[u8]) -> Sized
-    ensures { λ r. ⌜ sizedOf r ≡ lengthOf (datagramOut length (now («data» .entry))) ⌝ }
+pub fn datagram_size(with_len: bool, data: &[u8]) -> Sized
+    ensures { λ r. ⌜ sizedOf r ≡ lengthOf (datagramOut «with_len» (now («data» .entry))) ⌝ }
 {
-    if length {
-        return row_out::frame_size(&[0x31, data.len() as u64], data);
+    if with_len {
+        return row_out::frame_size(&[types::DATAGRAM_LAST, data.len() as u64], data);
     }
-    row_out::frame_size(&[0x30], data)
+    row_out::frame_size(&[types::DATAGRAM_FIRST], data)
 }
 
 pub fn ack_frequency(frame: AckFrequency, out: &mut [u8]) -> Wrote
@@ -235,4 +229,20 @@ pub fn ack_frequency(frame: AckFrequency, out: &mut [u8]) -> Wrote
         frame.reordering_threshold,
     ];
     row_out::frame_of(&vals, &[], out)
+}
+
+// The bounds of the two closes, of STREAM, CRYPTO, RESET_STREAM, STOP_SENDING, NEW_CONNECTION_ID and DATAGRAM.
+pub fn size_bounds() -> [usize; 8]
+    ensures { λ r. ⌜ r ≡ sizeBounds ⌝ }
+{
+    [
+        CONNECTION_CLOSE_SIZE_BOUND,
+        APPLICATION_CLOSE_SIZE_BOUND,
+        STREAM_SIZE_BOUND,
+        CRYPTO_SIZE_BOUND,
+        RESET_STREAM_SIZE_BOUND,
+        STOP_SENDING_SIZE_BOUND,
+        NEW_CONNECTION_ID_SIZE_BOUND,
+        DATAGRAM_SIZE_BOUND,
+    ]
 }

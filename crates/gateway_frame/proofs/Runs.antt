@@ -11,7 +11,7 @@ use Rattle.coding.specs.Words.{if_then_else_, got, andThen}
 use Rattle.coding.specs.Bytes.{byteAt, be}
 use Rattle.coding.specs.Varint.{varLen, varAt}
 use Rattle.frame.specs.Format.{fieldsAt}
-use Rattle.frame.specs.Table.{table, bodyAt, outcome, frameAt}
+use Rattle.frame.specs.Table.{table, frameBodyAt, outcome, frameAt}
 use Rattle.frame.specs.Walk.{stepAt}
 use Rattle.gateway_frame.specs.Frames.{frameRecord, frameFor, isPadding, paddingRecord}
 
@@ -39,6 +39,6 @@ module _ (s : List ℕ) (at : ℕ) where
     type-read = rw (lt-ltb at (length s) (h .inside), h .zero, le-leb (at + 1) (length s) (omega (arith, h .inside)))
 
     pub padding-read : paddingRecord at (at + 1) ≡ frameFor s at
-    unfolding frameFor stepAt frameAt andThen outcome bodyAt table frameRecord fieldsAt if_then_else_
+    unfolding frameFor stepAt frameAt andThen outcome frameBodyAt table frameRecord fieldsAt if_then_else_
     padding-read =
         rw (le-ltb 65527 (length s) (h .few), ne-eqb (length s) 0 (λ e. omega (arith, e, h .inside)), lt-leb (length s) at (h .inside), type-read)

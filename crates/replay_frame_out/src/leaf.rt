@@ -57,15 +57,16 @@ pub(crate) fn fsize(what: u64, b: &[u8]) -> Answer {
 }
 
 pub(crate) fn bounds(out: &mut [u8], at: usize) -> usize {
-    let p = line::num(out, at, frame_out::CONNECTION_CLOSE_SIZE_BOUND as u64);
+    let b = frame_out::size_bounds();
+    let p = line::num(out, at, b[0] as u64);
     let others = [
-        frame_out::APPLICATION_CLOSE_SIZE_BOUND as u64,
-        frame_out::STREAM_SIZE_BOUND as u64,
-        frame_out::CRYPTO_SIZE_BOUND as u64,
-        frame_out::RESET_STREAM_SIZE_BOUND as u64,
-        frame_out::STOP_SENDING_SIZE_BOUND as u64,
-        frame_out::NEW_CONNECTION_ID_SIZE_BOUND as u64,
-        frame_out::DATAGRAM_SIZE_BOUND as u64,
+        b[1] as u64,
+        b[2] as u64,
+        b[3] as u64,
+        b[4] as u64,
+        b[5] as u64,
+        b[6] as u64,
+        b[7] as u64,
     ];
     line::and_nums(out, p, &others)
 }

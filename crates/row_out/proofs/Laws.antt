@@ -1,4 +1,4 @@
--- Laws of the limits, and of integers one after the other. Assumes nothing.
+-- Laws of the limits, and of integers one after the other.
 use mathlib.Core.Path.{_≡_, refl, sym, ap, _∙_}
 use mathlib.Core.List.{List, [], _∷_, _++_, append-assoc, append-nil}
 use mathlib.Core.Bool.{Bool, true, false}
@@ -9,7 +9,7 @@ use lib.Seq.{take-suc}
 use lib.Dec.{ltb, leb}
 use borrow.Author.Tests.{ltb-true, leb-true, leb-false, lt-ltb, le-leb, lt-leb}
 use Rattle.coding.specs.Words.{if_then_else_, Answer, no, ok}
-use Rattle.coding.specs.Varint.{varTag, varSize, varBytes}
+use Rattle.coding.specs.Varint.{varSize, varBytes}
 use Rattle.coding.specs.Writing.{lengthOf}
 use Rattle.coding.specs.Refusals.{numberOf}
 use Rattle.coding.specs.Said.{sizedOf}
@@ -145,16 +145,6 @@ module _ (xs bs : List ℕ) where
 pub out-seen : (xs bs cs : List ℕ) → varsOut xs bs ≡ ok cs → Seen xs (varsBytes xs ++ bs) cs
 unfolding varsOut
 out-seen xs bs cs e = limited-seen xs (varsBytes xs ++ bs) cs e
-
--- a type of one byte and n integers take at most 1 + 8n bytes besides what follows
-pub out-bound : (t : ℕ) (xs bs cs : List ℕ) → t < 64 → varsOut (t ∷ xs) bs ≡ ok cs → length cs ≤ 1 + 8 * length xs + length bs
-unfolding varsBytes varSize varTag if_then_else_
-out-bound t xs bs cs h e =
-    let s = out-seen (t ∷ xs) bs cs e in
-    let one : varSize t ≡ 1 = rw (lt-ltb t (2 ^ 6) h) in
-    let l = length-out (t ∷ xs) bs in
-    let m : length (varBytes t ++ varsBytes xs) ≡ varSize t + length (varsBytes xs) = simp (length-append, length-var) in
-    rw (← s .same) (omega (arith, l, m, vars-bound xs (below-cons t xs (s .small) .1)))
 
 -- bytes that are integers ys and then d, and say the integers xs: the same limits, where those of d, at most 65,527, agree
 pub vals-same : (xs ys bs d : List ℕ) → bs ≡ varsBytes ys ++ d → (length d ≤ 65527 → below62 xs ≡ below62 ys) → limited xs bs ≡ varsOut ys d

@@ -1,5 +1,5 @@
 -- What is written is read back: which words fit a row, and the values that are read of them.
-use Prim.Native.Nat.{ℕ, _+_, _≤_, _<_, _^_}
+use Prim.Native.Nat.{ℕ, suc, _+_, _≤_, _<_, _^_}
 use mathlib.Core.Path.{_≡_}
 use mathlib.Core.List.{List, [], _∷_, _++_, map}
 use lib.ListN.{length}
@@ -7,47 +7,51 @@ use Rattle.coding.specs.Words.{ok}
 use Rattle.coding.specs.Places.{partOf}
 use Rattle.coding.specs.Varint.{varSize}
 use Rattle.ack.specs.Scan.{scanAt}
-use Rattle.frame.specs.Format.{Value, num, place, none, said, Field, var, orNone, atMost, bytes, rest, fixed, num64, cid, ackBlocks, const, last, lastButOne, orNothing}
-use Rattle.frame.specs.Table.{Row, taken, frameAt}
-use Rattle.row_out.specs.Writing.{Word, number, raw, nothing, numberIn, rawIn, roundsIn, fieldBytes, rowBytes}
+use Rattle.frame.specs.Format.{Value, num, place, none, said, Field, var, orNone, atMost, bytes, rest, fixed, num64, cid, ackBlocks, const, absent, lastRead, lastButOne, orNothing}
+use Rattle.frame.specs.Table.{Row, look, taken}
+use Rattle.frame.specs.Walk.{walkFrom, frame, stepAt}
+use Rattle.row_out.specs.Writing.{Word, number, raw, nothing, wordNumber, wordBytes, roundsIn, fieldBytes, rowBytes, fieldsOf}
+use Rattle.row_out.specs.Bounds.{boundOf, dataIn}
 
 -- a value, with the bytes of the part that it names
-abbrev pub wordOf : List ℕ → Value → Word
-wordOf s (num n) = number n
-wordOf s (place p) = raw (partOf s p)
-wordOf s none = nothing
+abbrev pub asWord : List ℕ → Value → Word
+asWord s (num n) = number n
+asWord s (place p) = raw (partOf s p)
+asWord s none = nothing
 
 -- the word fits the field, after the values `seen` (the last one first) and before the bytes q: a number its rule, a length
 -- its rule, ACK blocks what the scan takes whole; nothing stands behind `rest`; a word that the type itself says is what it says
 abbrev pub Fits : Field → Word → List Value → List ℕ → Type 0
-Fits var w seen q = numberIn w < 2 ^ 62
-Fits orNone w seen q = numberIn w < 2 ^ 62
-Fits atMost w seen q = (numberIn w < 2 ^ 62) × (numberIn w ≤ last seen)
-Fits bytes w seen q = length (rawIn w) < 2 ^ 62
+Fits var w seen q = wordNumber w < 2 ^ 62
+Fits orNone w seen q = wordNumber w < 2 ^ 62
+Fits atMost w seen q = (wordNumber w < 2 ^ 62) × (wordNumber w ≤ lastRead seen)
+Fits bytes w seen q = length (wordBytes w) < 2 ^ 62
 Fits rest w seen q = q ≡ []
-Fits (fixed k) w seen q = length (rawIn w) ≡ k
-Fits num64 w seen q = numberIn w < 2 ^ 64
-Fits cid w seen q = (0 < length (rawIn w)) × (length (rawIn w) ≤ 20)
+Fits (fixed k) w seen q = length (wordBytes w) ≡ k
+Fits num64 w seen q = wordNumber w < 2 ^ 64
+Fits cid w seen q = (0 < length (wordBytes w)) × (length (wordBytes w) ≤ 20)
 Fits ackBlocks w seen q =
-    (roundsIn (rawIn w) < 2 ^ 62) × (scanAt (rawIn w) 0 (lastButOne seen) (roundsIn (rawIn w)) ≡ ok (length (rawIn w)))
-Fits (const v) w seen q = (s : List ℕ) → wordOf s v ≡ w
+    (roundsIn (wordBytes w) < 2 ^ 62) × (scanAt (wordBytes w) 0 (lastButOne seen) (roundsIn (wordBytes w)) ≡ ok (length (wordBytes w)))
+Fits (const n) w seen q = w ≡ number n
+Fits absent w seen q = w ≡ nothing
 
 -- so many bytes from a place on
-abbrev pub span : ℕ → ℕ → Value
-span start len = place (record { start = start; len = len })
+abbrev pub placeFrom : ℕ → ℕ → Value
+placeFrom start len = place (record { start = start; len = len })
 
 -- the value that is read of a word written at a place
 abbrev pub valueAt : Field → Word → ℕ → Value
-valueAt var w at = num (numberIn w)
-valueAt orNone w at = orNothing (numberIn w)
-valueAt atMost w at = num (numberIn w)
-valueAt bytes w at = span (at + varSize (length (rawIn w))) (length (rawIn w))
-valueAt rest w at = span at (length (rawIn w))
-valueAt (fixed k) w at = span at k
-valueAt num64 w at = num (numberIn w)
-valueAt cid w at = span (at + 1) (length (rawIn w))
-valueAt ackBlocks w at = span (at + varSize (roundsIn (rawIn w))) (length (rawIn w))
-valueAt (const v) w at = v
+valueAt var w at = num (wordNumber w)
+valueAt orNone w at = orNothing (wordNumber w)
+valueAt atMost w at = num (wordNumber w)
+valueAt bytes w at = placeFrom (at + varSize (length (wordBytes w))) (length (wordBytes w))
+valueAt rest w at = placeFrom at (length (wordBytes w))
+valueAt (fixed k) w at = placeFrom at k
+valueAt num64 w at = num (wordNumber w)
+valueAt cid w at = placeFrom (at + 1) (length (wordBytes w))
+valueAt ackBlocks w at = placeFrom (at + varSize (roundsIn (wordBytes w))) (length (wordBytes w))
+valueAt (const n) w at = num n
+valueAt absent w at = none
 
 abbrev pub valuesAt : List Field → List Word → ℕ → List Value
 valuesAt [] ws at = []
@@ -55,26 +59,27 @@ valuesAt (f ∷ fs) [] at = []
 valuesAt (f ∷ fs) (w ∷ ws) at = valueAt f w at ∷ valuesAt fs ws (at + length (fieldBytes f w))
 
 -- the words fit the row, each its field, after `seen` at a place and before q
-abbrev pub Writes : List Field → List Word → List Value → ℕ → List ℕ → Type 0
-Writes [] [] seen at q = Unit
-Writes [] (w ∷ ws) seen at q = ⊥
-Writes (f ∷ fs) [] seen at q = ⊥
-Writes (f ∷ fs) (w ∷ ws) seen at q =
-    Fits f w seen (rowBytes fs ws ++ q) × Writes fs ws (valueAt f w at ∷ seen) (at + length (fieldBytes f w)) q
+abbrev pub WordsFit : List Field → List Word → List Value → ℕ → List ℕ → Type 0
+WordsFit [] [] seen at q = Unit
+WordsFit [] (w ∷ ws) seen at q = ⊥
+WordsFit (f ∷ fs) [] seen at q = ⊥
+WordsFit (f ∷ fs) (w ∷ ws) seen at q =
+    Fits f w seen (rowBytes fs ws ++ q) × WordsFit fs ws (valueAt f w at ∷ seen) (at + length (fieldBytes f w)) q
 
 -- ---- the words that come back: those that were given, but a number 0 that says nothing is nothing
 
 abbrev pub wordRead : Field → Word → Word
-wordRead var w = number (numberIn w)
-wordRead orNone w = wordOf [] (orNothing (numberIn w))
-wordRead atMost w = number (numberIn w)
-wordRead bytes w = raw (rawIn w)
-wordRead rest w = raw (rawIn w)
-wordRead (fixed k) w = raw (rawIn w)
-wordRead num64 w = number (numberIn w)
-wordRead cid w = raw (rawIn w)
-wordRead ackBlocks w = raw (rawIn w)
-wordRead (const v) w = w
+wordRead var w = number (wordNumber w)
+wordRead orNone w = asWord [] (orNothing (wordNumber w))
+wordRead atMost w = number (wordNumber w)
+wordRead bytes w = raw (wordBytes w)
+wordRead rest w = raw (wordBytes w)
+wordRead (fixed k) w = raw (wordBytes w)
+wordRead num64 w = number (wordNumber w)
+wordRead cid w = raw (wordBytes w)
+wordRead ackBlocks w = raw (wordBytes w)
+wordRead (const n) w = w
+wordRead absent w = w
 
 abbrev pub wordsRead : List Field → List Word → List Word
 wordsRead [] ws = []
@@ -83,8 +88,12 @@ wordsRead (f ∷ fs) (w ∷ ws) = wordRead f w ∷ wordsRead fs ws
 
 -- ---- what is read
 
--- the bytes bs, behind p and before q, are read as a frame of type t whose values say the words ws, and the place past it
+-- the bytes bs, behind p and before q in a payload within its rule: the step there hands out a frame of type t and the place past
+-- it, and so does the walk, which goes on from that place; its values say the words ws; it is no longer than its bound, besides data
 pub record ReadAs (rows : List Row) (t name : ℕ) (ws : List Word) (p bs q : List ℕ) : Type 0 where
   pub values : List Value
-  pub read : frameAt rows (p ++ (bs ++ q)) (length p) ≡ taken t (said name values) (length p + length bs)
-  pub say : map (wordOf (p ++ (bs ++ q))) values ≡ ws
+  pub read : length (p ++ (bs ++ q)) ≤ 65527 → stepAt rows (p ++ (bs ++ q)) (length p) ≡ frame (taken t (said name values) (length p + length bs))
+  pub walked : (turns : ℕ) → walkFrom rows (p ++ (bs ++ q)) (suc turns) (length p)
+      ≡ (length p, taken t (said name values) (length p + length bs)) ∷ walkFrom rows (p ++ (bs ++ q)) turns (length p + length bs)
+  pub say : map (asWord (p ++ (bs ++ q))) values ≡ ws
+  pub short : length bs ≤ boundOf rows t + dataIn (fieldsOf (look rows t) t) ws

@@ -23,15 +23,15 @@ unfoldable pub limited : List ℕ → List ℕ → Answer (List ℕ)
 limited xs bs = if below62 xs then inFrame bs else no 14
 
 -- the numbers among the words
-unfoldable pub numbersIn : List Word → List ℕ
-numbersIn [] = []
-numbersIn (number n ∷ ws) = n ∷ numbersIn ws
-numbersIn (raw bs ∷ ws) = numbersIn ws
-numbersIn (nothing ∷ ws) = numbersIn ws
+unfoldable pub wordNumbers : List Word → List ℕ
+wordNumbers [] = []
+wordNumbers (number n ∷ ws) = n ∷ wordNumbers ws
+wordNumbers (raw bs ∷ ws) = wordNumbers ws
+wordNumbers (nothing ∷ ws) = wordNumbers ws
 
 -- a frame of type t whose numbers are integers, or 14 (those of the two path frames are not: eight bytes hold any number)
 unfoldable pub frameOut : List Row → ℕ → List Word → Answer (List ℕ)
-frameOut rows t ws = limited (numbersIn ws) (frameBytes rows t ws)
+frameOut rows t ws = limited (wordNumbers ws) (frameBytes rows t ws)
 
 -- ---- integers, one after the other
 

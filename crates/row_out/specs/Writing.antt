@@ -6,7 +6,7 @@ use lib.ListN.{length}
 use Rattle.coding.specs.Words.{andThen}
 use Rattle.coding.specs.Bytes.{bytesBE}
 use Rattle.coding.specs.Varint.{varAt, varBytes}
-use Rattle.frame.specs.Format.{Field, var, orNone, atMost, bytes, rest, fixed, num64, cid, ackBlocks, const}
+use Rattle.frame.specs.Format.{Field, var, orNone, atMost, bytes, rest, fixed, num64, cid, ackBlocks, const, absent}
 use Rattle.frame.specs.Table.{Row, look}
 
 -- what is given to a field: a number, some bytes, or nothing
@@ -15,15 +15,15 @@ pub data Word : Type 0 where
   raw : List ℕ → Word
   nothing : Word
 
-abbrev pub numberIn : Word → ℕ
-numberIn (number n) = n
-numberIn (raw bs) = 0
-numberIn nothing = 0
+abbrev pub wordNumber : Word → ℕ
+wordNumber (number n) = n
+wordNumber (raw bs) = 0
+wordNumber nothing = 0
 
-abbrev pub rawIn : Word → List ℕ
-rawIn (number n) = []
-rawIn (raw bs) = bs
-rawIn nothing = []
+abbrev pub wordBytes : Word → List ℕ
+wordBytes (number n) = []
+wordBytes (raw bs) = bs
+wordBytes nothing = []
 
 -- ---- ACK blocks are given as their bytes: one block, and for each round a gap and a block
 
@@ -38,16 +38,17 @@ roundsIn s = (integersIn (length s) s 0 - 1) / 2
 -- ---- the bytes of a field, of a row, of a frame
 
 unfoldable pub fieldBytes : Field → Word → List ℕ
-fieldBytes var w = varBytes (numberIn w)
-fieldBytes orNone w = varBytes (numberIn w)
-fieldBytes atMost w = varBytes (numberIn w)
-fieldBytes bytes w = varBytes (length (rawIn w)) ++ rawIn w
-fieldBytes rest w = rawIn w
-fieldBytes (fixed k) w = rawIn w
-fieldBytes num64 w = bytesBE 8 (numberIn w)
-fieldBytes cid w = length (rawIn w) ∷ rawIn w
-fieldBytes ackBlocks w = varBytes (roundsIn (rawIn w)) ++ rawIn w
-fieldBytes (const v) w = []
+fieldBytes var w = varBytes (wordNumber w)
+fieldBytes orNone w = varBytes (wordNumber w)
+fieldBytes atMost w = varBytes (wordNumber w)
+fieldBytes bytes w = varBytes (length (wordBytes w)) ++ wordBytes w
+fieldBytes rest w = wordBytes w
+fieldBytes (fixed k) w = wordBytes w
+fieldBytes num64 w = bytesBE 8 (wordNumber w)
+fieldBytes cid w = length (wordBytes w) ∷ wordBytes w
+fieldBytes ackBlocks w = varBytes (roundsIn (wordBytes w)) ++ wordBytes w
+fieldBytes (const n) w = []
+fieldBytes absent w = []
 
 -- a word for each field; fields that have none are not written
 unfoldable pub rowBytes : List Field → List Word → List ℕ

@@ -1,10 +1,15 @@
 // Kinds of number that are not to be taken for each other (lib.rs; frame.rs; packet.rs, PacketNumber).
+use crate::types;
 use coding::Refusal;
+use coding::VarInt;
 ghost use mathlib.Core.Path.{_≡_};
 ghost use Prim.Native.Nat.{_-_, _≤_};
 ghost use lib.Dec.{eqb};
 ghost use Rattle.shared.specs.Streams.{initiatorOf, dirOf, indexOf, streamMade};
 ghost use Rattle.shared.specs.Said.{sideBit, dirBit, streamOf};
+
+// One past the largest integer, stream offset or packet number: 2^62.
+pub const NUMBER_END: u64 = VarInt::MAX.0 + 1;
 
 // Whether an endpoint was the initiator of a connection.
 pub enum Side {
@@ -130,53 +135,53 @@ impl StreamId {
 
 // The frame types (frame_types! of frame.rs).
 impl FrameType {
-    pub const PADDING: FrameType = FrameType(0x00);
+    pub const PADDING: FrameType = FrameType(types::PADDING);
 
-    pub const PING: FrameType = FrameType(0x01);
+    pub const PING: FrameType = FrameType(types::PING);
 
-    pub const ACK: FrameType = FrameType(0x02);
+    pub const ACK: FrameType = FrameType(types::ACK);
 
-    pub const ACK_ECN: FrameType = FrameType(0x03);
+    pub const ACK_ECN: FrameType = FrameType(types::ACK_ECN);
 
-    pub const RESET_STREAM: FrameType = FrameType(0x04);
+    pub const RESET_STREAM: FrameType = FrameType(types::RESET_STREAM);
 
-    pub const STOP_SENDING: FrameType = FrameType(0x05);
+    pub const STOP_SENDING: FrameType = FrameType(types::STOP_SENDING);
 
-    pub const CRYPTO: FrameType = FrameType(0x06);
+    pub const CRYPTO: FrameType = FrameType(types::CRYPTO);
 
-    pub const NEW_TOKEN: FrameType = FrameType(0x07);
+    pub const NEW_TOKEN: FrameType = FrameType(types::NEW_TOKEN);
 
-    pub const MAX_DATA: FrameType = FrameType(0x10);
+    pub const MAX_DATA: FrameType = FrameType(types::MAX_DATA);
 
-    pub const MAX_STREAM_DATA: FrameType = FrameType(0x11);
+    pub const MAX_STREAM_DATA: FrameType = FrameType(types::MAX_STREAM_DATA);
 
-    pub const MAX_STREAMS_BIDI: FrameType = FrameType(0x12);
+    pub const MAX_STREAMS_BIDI: FrameType = FrameType(types::MAX_STREAMS_BIDI);
 
-    pub const MAX_STREAMS_UNI: FrameType = FrameType(0x13);
+    pub const MAX_STREAMS_UNI: FrameType = FrameType(types::MAX_STREAMS_UNI);
 
-    pub const DATA_BLOCKED: FrameType = FrameType(0x14);
+    pub const DATA_BLOCKED: FrameType = FrameType(types::DATA_BLOCKED);
 
-    pub const STREAM_DATA_BLOCKED: FrameType = FrameType(0x15);
+    pub const STREAM_DATA_BLOCKED: FrameType = FrameType(types::STREAM_DATA_BLOCKED);
 
-    pub const STREAMS_BLOCKED_BIDI: FrameType = FrameType(0x16);
+    pub const STREAMS_BLOCKED_BIDI: FrameType = FrameType(types::STREAMS_BLOCKED_BIDI);
 
-    pub const STREAMS_BLOCKED_UNI: FrameType = FrameType(0x17);
+    pub const STREAMS_BLOCKED_UNI: FrameType = FrameType(types::STREAMS_BLOCKED_UNI);
 
-    pub const NEW_CONNECTION_ID: FrameType = FrameType(0x18);
+    pub const NEW_CONNECTION_ID: FrameType = FrameType(types::NEW_CONNECTION_ID);
 
-    pub const RETIRE_CONNECTION_ID: FrameType = FrameType(0x19);
+    pub const RETIRE_CONNECTION_ID: FrameType = FrameType(types::RETIRE_CONNECTION_ID);
 
-    pub const PATH_CHALLENGE: FrameType = FrameType(0x1a);
+    pub const PATH_CHALLENGE: FrameType = FrameType(types::PATH_CHALLENGE);
 
-    pub const PATH_RESPONSE: FrameType = FrameType(0x1b);
+    pub const PATH_RESPONSE: FrameType = FrameType(types::PATH_RESPONSE);
 
-    pub const CONNECTION_CLOSE: FrameType = FrameType(0x1c);
+    pub const CONNECTION_CLOSE: FrameType = FrameType(types::CONNECTION_CLOSE);
 
-    pub const APPLICATION_CLOSE: FrameType = FrameType(0x1d);
+    pub const APPLICATION_CLOSE: FrameType = FrameType(types::APPLICATION_CLOSE);
 
-    pub const HANDSHAKE_DONE: FrameType = FrameType(0x1e);
+    pub const HANDSHAKE_DONE: FrameType = FrameType(types::HANDSHAKE_DONE);
 
-    pub const ACK_FREQUENCY: FrameType = FrameType(0xaf);
+    pub const ACK_FREQUENCY: FrameType = FrameType(types::ACK_FREQUENCY);
 
-    pub const IMMEDIATE_ACK: FrameType = FrameType(0x1f);
+    pub const IMMEDIATE_ACK: FrameType = FrameType(types::IMMEDIATE_ACK);
 }

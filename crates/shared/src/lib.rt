@@ -4,6 +4,7 @@ mod bits; // bits.rt: the bits of a header's first byte
 mod cid; // cid.rt: connection ids
 mod codepoint; // codepoint.rt: explicit congestion notification
 mod kinds; // kinds.rt: stream ids, frame types, packet numbers
+pub mod types; // types.rt: the frame types' numbers, for a match
 
 pub use bits::FIXED_BIT;
 pub use bits::KEY_PHASE_BIT;
@@ -22,6 +23,7 @@ pub use kinds::CutNumber;
 pub use kinds::Dir;
 pub use kinds::FrameType;
 pub use kinds::FullNumber;
+pub use kinds::NUMBER_END;
 pub use kinds::Side;
 pub use kinds::StreamId;
 pub use kinds::StreamMade;

@@ -2,7 +2,7 @@ use native.Mathlib.Omega.{arith}
 use Rattle.coding.specs.Said.{wroteOf}
 use Rattle.coding.proofs.Writes.{written-no, written-short, written-ok}
 use Rattle.ack_out.proofs.Frames.{only-14, known, unknown}
-use Rattle.ack_out.proofs.Runs.{ready, blocks-room, all-put}
+use Rattle.ack_out.proofs.Puts.{ready, blocks-room, all-put}
 use borrow.Author.Needs.{needs}
 use Rattle.ack_out.proofs.ack.Statement.{statement}
 use Rattle.ack_out.proofs.ack.Tie as tie

@@ -1,4 +1,4 @@
-use Rattle.ack_out.specs.Acks.{typeOf}
+use Rattle.ack_out.specs.Acks.{ackTypeOf}
 use borrow.Author.Needs.{needs}
 use Rattle.ack_out.proofs.ack_type.Statement.{statement}
 use Rattle.ack_out.proofs.ack_type.Tie as tie
@@ -10,11 +10,11 @@ enum-told-2 : tie.Need-enum-told-2
 enum-told-2 c = search needs
 
 returns : tie.Need-returns
-unfolding typeOf
+unfolding ackTypeOf
 returns c = rw (c .enum-told .given .1)
 
 returns-2 : tie.Need-returns-2
-unfolding typeOf
+unfolding ackTypeOf
 returns-2 c = rw (c .enum-told2 .given .1)
 
 pub ack-type-spec : {M : Type 1} → statement M

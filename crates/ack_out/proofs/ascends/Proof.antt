@@ -10,10 +10,10 @@ use Rattle.ack_out.proofs.ascends.Statement.{statement}
 use Rattle.ack_out.proofs.ascends.Tie as tie
 
 abbrev Inv-loop : tie.InvT-loop
-Inv-loop ranges i₀ i = (i ≤ length ranges - 1) × (ascends (drop i ranges) ≡ ascends ranges)
+Inv-loop list i₀ i = (i ≤ length list - 1) × (ascends (drop i list) ≡ ascends list)
 
 abbrev μ-loop : tie.MeasureT-loop
-μ-loop ranges i₀ i = length ranges - i
+μ-loop list i₀ i = length list - i
 
 loop-holds : tie.Need-loop-holds Inv-loop μ-loop
 loop-holds c = (omega arith, refl)
@@ -39,7 +39,7 @@ shared-slice-read-if1-2 c = omega arith
 returns : tie.Need-returns Inv-loop μ-loop
 returns c =
     let l = c .before .before .before .before .loop in
-    sym (ascends-not (now (c .before .before .before .before .before .args .ranges)) (l .i) (omega arith) (c .if1 .taken)) ∙ l .inv .1
+    sym (ascends-not (now (c .before .before .before .before .before .args .list)) (l .i) (omega arith) (c .if1 .taken)) ∙ l .inv .1
 
 add-i : tie.Need-add-i Inv-loop μ-loop
 add-i c = omega arith
@@ -50,12 +50,12 @@ loop-less c = omega arith
 loop-again : tie.Need-loop-again Inv-loop μ-loop
 loop-again c =
     let l = c .before .before .before .before .loop in
-    (omega arith, sym (ascends-on (now (c .before .before .before .before .before .args .ranges)) (l .i) (omega arith) (c .if1 .left)) ∙ l .inv .1)
+    (omega arith, sym (ascends-on (now (c .before .before .before .before .before .args .list)) (l .i) (omega arith) (c .if1 .left)) ∙ l .inv .1)
 
 returns-2 : tie.Need-returns-2 Inv-loop μ-loop
 returns-2 c =
     let l = c .before .loop in
-    sym (ascends-end (now (c .before .before .args .ranges)) (l .i) (omega arith)) ∙ l .inv .1
+    sym (ascends-end (now (c .before .before .args .list)) (l .i) (omega arith)) ∙ l .inv .1
 
 pub ascends-spec : {M : Type 1} → statement M
 ascends-spec =

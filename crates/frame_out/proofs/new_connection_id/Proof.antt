@@ -21,6 +21,9 @@ returns-2 : tie.Need-returns-2
 unfolding wroteOf newCidOut if_then_else_
 returns-2 c = written-no _ (rw (le-ltb _ _ (c .before .before .if1 .left), eq-eqb _ _ (c .if2 .taken)))
 
+cast-if3 : tie.Need-cast-if3
+cast-if3 c = search needs
+
 returns-3 : tie.Need-returns-3
 unfolding wroteOf newCidOut if_then_else_
 returns-3 c =
@@ -50,6 +53,7 @@ new-connection-id-spec =
     (tie.spec
     returns
     returns-2
+    cast-if3
     returns-3
     slice-aggregate-frame-with-id
     frame-with-id-requires

@@ -2,7 +2,7 @@ use borrow.Author.Needs.{needs}
 use native.Mathlib.Omega.{arith}
 use mathlib.Core.Path.{refl, sym, _∙_}
 use Rattle.frame.specs.Format.{fieldsAt}
-use Rattle.frame.specs.Table.{bodyAt, table}
+use Rattle.frame.specs.Table.{frameBodyAt, table}
 use Rattle.frame.specs.Said.{bodyOf}
 use Rattle.frame.proofs.Look.{past}
 use Rattle.frame.proofs.Arms.{keys, stream-arm, datagram-arm, between-arm, above-arm}
@@ -10,7 +10,7 @@ use Rattle.frame.proofs.body.read_body.Statement.{statement}
 use Rattle.frame.proofs.body.read_body.Tie as tie
 
 pub read-body-spec : {M : Type 1} → statement M
-unfolding bodyAt table fieldsAt bodyOf
+unfolding frameBodyAt table fieldsAt bodyOf
 read-body-spec =
     tie.close
     (tie.spec

@@ -1,13 +1,13 @@
 use native.Mathlib.Omega.{arith}
 use Rattle.coding.proofs.Laws.{take-none}
 use Rattle.coding.specs.Said.{placeOf}
-use Rattle.frame.specs.Format.{restAt}
+use Rattle.frame.specs.Format.{allLeftAt}
 use borrow.Author.Needs.{needs}
 use Rattle.frame.proofs.field.take_remaining.Statement.{statement}
 use Rattle.frame.proofs.field.take_remaining.Tie as tie
 
 returns : tie.Need-returns
-unfolding restAt placeOf
+unfolding allLeftAt placeOf
 returns c = take-none _ _ _ (omega arith)
 
 sub-take : tie.Need-sub-take
@@ -17,7 +17,7 @@ take-requires : tie.Need-take-requires
 take-requires c κs = search needs
 
 returns-2 : tie.Need-returns-2
-unfolding restAt
+unfolding allLeftAt
 returns-2 c = search needs
 
 pub take-remaining-spec : {M : Type 1} → statement M

@@ -1,4 +1,4 @@
--- The rounds of ACK blocks that were written as integers: one for each two past the first. Assumes nothing.
+-- The rounds of ACK blocks that were written as integers: one for each two past the first.
 use mathlib.Core.Path.{_≡_, refl, ap}
 use mathlib.Core.List.{List, [], _∷_, _++_, append-assoc}
 use mathlib.Core.Bool.{true}

@@ -1,4 +1,4 @@
--- What is read in a part of a list is read there in the whole list. Assumes nothing.
+-- What is read in a part of a list is read there in the whole list.
 use mathlib.Core.Path.{_≡_, refl, sym, ap, _∙_}
 use mathlib.Core.List.{List, _++_}
 use mathlib.Core.Bool.{Bool, true, false}

@@ -1,4 +1,4 @@
--- What the encoder's puts make, once the frame is known to be within its limits. Assumes nothing.
+-- What the encoder's puts make, once the frame is known to be within its limits.
 use mathlib.Core.Path.{_≡_, refl, sym, ap, _∙_}
 use mathlib.Core.List.{List, [], _++_, append-assoc, append-nil}
 use mathlib.Core.Bool.{Bool, true, false}

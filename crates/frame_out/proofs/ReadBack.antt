@@ -1,4 +1,5 @@
--- What each encoder wrote is read back as its words, wherever it stands: behind p and before q. Assumes nothing.
+-- What each encoder wrote is handed out by the step as its words, wherever it stands, behind p and before q, and is no longer than
+-- its bound.
 use mathlib.Core.Path.{_≡_, refl, sym, ap, _∙_}
 use mathlib.Core.List.{List, [], _∷_, _++_, append-assoc, append-nil}
 use mathlib.Core.Bool.{Bool, true, false}
@@ -14,10 +15,10 @@ use Rattle.shared.specs.declared.cid.ConnectionId.{ConnectionId}
 use Rattle.shared.proofs.Laws.{length-cid}
 use Rattle.frame.specs.Format.{orNone, orNothing}
 use Rattle.frame.specs.Table.{flag, table}
-use Rattle.row_out.specs.Writing.{Word, number, raw, nothing, numberIn, fieldBytes, rowBytes, frameBytes}
+use Rattle.row_out.specs.Writing.{Word, number, raw, nothing, wordNumber, fieldBytes, rowBytes, frameBytes}
 use Rattle.row_out.specs.Back.{wordRead, ReadAs}
 use Rattle.row_out.proofs.Laws.{below-at}
-use Rattle.row_out.proofs.Trip.{read-as, out-read}
+use Rattle.row_out.proofs.ReadBack.{read-as, out-read}
 use Rattle.frame_out.specs.Frames.{streamType, streamWords, metaBytes, metaOut, cryptoOut, newTokenOut, resetStreamOut, stopSendingOut, newCidOut, datagramOut, ackFrequencyOut}
 use Rattle.frame_out.specs.Closes.{connection, application, fixedFields, closeWith, closeOut}
 use Rattle.frame_out.proofs.Vals.{crypto-vals, token-vals, reset-vals, stop-vals, frequency-vals, datagram-vals, connection-vals, application-vals, typeBy, meta-seen, cid-frame, cid-vals, cid-seen}
@@ -68,9 +69,9 @@ module _ (p bs q : List ℕ) where
   unfolding datagramOut table rowBytes if_then_else_
   datagram-read true d e h =
       let ys : List ℕ = 0x31 ∷ length d ∷ [] in
-      out-read table 0x31 _ _ ys d bs p q (datagram-vals true d) e refl (omega arith) (λ b. ((λ s. refl), (below-at ys 1 b (omega arith), tt)))
+      out-read table 0x31 _ _ ys d bs p q (datagram-vals true d) e refl (omega arith) (λ b. (refl, (below-at ys 1 b (omega arith), tt)))
   datagram-read false d e h =
-      out-read table 0x30 _ _ (0x30 ∷ []) d bs p q (datagram-vals false d) e refl (omega arith) (λ b. ((λ s. refl), (h refl, tt)))
+      out-read table 0x30 _ _ (0x30 ∷ []) d bs p q (datagram-vals false d) e refl (omega arith) (λ b. (refl, (h refl, tt)))
 
   -- the array has 20 bytes and the token 16
   pub cid-read : (sequence retire : ℕ) (id : ConnectionId) (token : List ℕ) → length (id .bytes) ≡ 20 → length token ≡ 16
@@ -93,7 +94,7 @@ module _ (p bs q : List ℕ) where
   unfolding closeWith table
   connection-read code ty reason max e =
       let d : List ℕ = take (max - fixedFields (connection code ty) (length reason)) reason in
-      let ys : List ℕ = 0x1c ∷ code ∷ numberIn ty ∷ length d ∷ [] in
+      let ys : List ℕ = 0x1c ∷ code ∷ wordNumber ty ∷ length d ∷ [] in
       out-read table 0x1c _ _ ys d bs p q (connection-vals code ty d) (close-seen (connection code ty) reason max bs e .frame) refl (omega arith)
       (λ b. (below-at ys 1 b (omega arith), (below-at ys 2 b (omega arith), (below-at ys 3 b (omega arith), tt))))
 
@@ -120,36 +121,36 @@ module _ (p d q : List ℕ) (id start : ℕ) (id-small : id < 2 ^ 62) (start-sma
   abbrev words : Bool → Bool → List Word
   words fin len = streamWords id start fin len ++ (raw d ∷ [])
 
-  zero-start : start ≡ 0 → (s : List ℕ) → number 0 ≡ number start
-  zero-start e s = ap number (sym e)
+  zero-start : start ≡ 0 → number start ≡ number 0
+  zero-start e = ap number e
 
   by-bits : (z fin len : Bool) → (z ≡ true → start ≡ 0) → (len ≡ false → q ≡ [])
       → ReadAs table (typeBy z fin len) 0x08 (words fin len) p (frameBytes table (typeBy z fin len) (words fin len)) q
   unfolding table streamWords rowBytes if_then_else_
   by-bits true true true e h =
       read-as table 0x0b _ (words true true) p q refl (omega arith)
-      (id-small, (zero-start (e refl), ((λ s. refl), ((λ s. refl), (data-small, tt)))))
+      (id-small, (zero-start (e refl), (refl, (refl, (data-small, tt)))))
   by-bits true true false e h =
       read-as table 0x09 _ (words true false) p q refl (omega arith)
-      (id-small, (zero-start (e refl), ((λ s. refl), ((λ s. refl), (h refl, tt)))))
+      (id-small, (zero-start (e refl), (refl, (refl, (h refl, tt)))))
   by-bits true false true e h =
       read-as table 0x0a _ (words false true) p q refl (omega arith)
-      (id-small, (zero-start (e refl), ((λ s. refl), ((λ s. refl), (data-small, tt)))))
+      (id-small, (zero-start (e refl), (refl, (refl, (data-small, tt)))))
   by-bits true false false e h =
       read-as table 0x08 _ (words false false) p q refl (omega arith)
-      (id-small, (zero-start (e refl), ((λ s. refl), ((λ s. refl), (h refl, tt)))))
+      (id-small, (zero-start (e refl), (refl, (refl, (h refl, tt)))))
   by-bits false true true e h =
       read-as table 0x0f _ (words true true) p q refl (omega arith)
-      (id-small, (start-small, ((λ s. refl), ((λ s. refl), (data-small, tt)))))
+      (id-small, (start-small, (refl, (refl, (data-small, tt)))))
   by-bits false true false e h =
       read-as table 0x0d _ (words true false) p q refl (omega arith)
-      (id-small, (start-small, ((λ s. refl), ((λ s. refl), (h refl, tt)))))
+      (id-small, (start-small, (refl, (refl, (h refl, tt)))))
   by-bits false false true e h =
       read-as table 0x0e _ (words false true) p q refl (omega arith)
-      (id-small, (start-small, ((λ s. refl), ((λ s. refl), (data-small, tt)))))
+      (id-small, (start-small, (refl, (refl, (data-small, tt)))))
   by-bits false false false e h =
       read-as table 0x0c _ (words false false) p q refl (omega arith)
-      (id-small, (start-small, ((λ s. refl), ((λ s. refl), (h refl, tt)))))
+      (id-small, (start-small, (refl, (refl, (h refl, tt)))))
 
   -- the head and the data are the whole frame
   whole : (z fin len : Bool)
