@@ -1,4 +1,6 @@
 pub mod Exports
 pub mod Puts
 pub mod Whole
+pub mod Stands
+pub mod SplitBack
 pub mod Onces
