@@ -3,4 +3,5 @@ pub mod Puts
 pub mod Whole
 pub mod Stands
 pub mod SplitBack
+pub mod WrittenBack
 pub mod Onces

@@ -99,11 +99,11 @@ module _ (s : List ℕ) (start len : ℕ) (dst src : ConnectionId) (version end 
 
 -- ---- a step of the walk
 
-flag-back : (b : Bool) → eqb (flag b) 1 ≡ b
+pub flag-back : (b : Bool) → eqb (flag b) 1 ≡ b
 flag-back true = refl
 flag-back false = refl
 
-flag-small : (b : Bool) → ltb 1 (flag b) ≡ false
+pub flag-small : (b : Bool) → ltb 1 (flag b) ≡ false
 flag-small true = refl
 flag-small false = refl
 
