@@ -4,4 +4,5 @@ pub mod Whole
 pub mod Stands
 pub mod SplitBack
 pub mod WrittenBack
+pub mod NumbersBack
 pub mod Onces
