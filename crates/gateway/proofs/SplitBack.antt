@@ -21,9 +21,9 @@ use Rattle.packet.specs.Header.{Header, initial, zeroRtt, handshake, retry, sho
 use Rattle.packet.specs.Split.{Split, cutAt, noPacket, splitBy, splitOn, splitAt}
 use Rattle.packet.specs.Walk.{Met, ended, packet, stopped, Step, metOn, stepOn, stopAt, stepAt}
 use Rattle.packet.proofs.Splits.{split-taken}
-use Rattle.gateway_frame.specs.Spans.{span}
+use Rattle.gateway_frame.specs.Spans.{spanAt}
 use Rattle.gateway_frame.specs.declared.records.Span.{Span}
-use Rattle.gateway.specs.Packets.{headerRecord, stepRecord, splitFor}
+use Rattle.gateway.specs.Packets.{splitRecord, stepRecord, splitFor}
 use Rattle.gateway.specs.declared.records.SplitAnswer.{SplitAnswer}
 use Rattle.gateway.proofs.Stands.{Stand, Stands, refuse-stands, header-stands}
 
@@ -71,7 +71,7 @@ module _ (s : List ℕ) (start len : ℕ) (dst src : ConnectionId) (version end 
   both : (a : Answer Header) {c d : ConnectionId} → c ≡ dst → d ≡ src → record { said = a; dst = c; src = d; version = version; end = end } ≡ saying a
   both a p q i = record { said = a; dst = p i; src = q i; version = version; end = end }
 
-  said-back : (a : Answer Header) → Stand s a (saying a) → outcomeBack s (headerRecord start len (saying a)) ≡ saying a
+  said-back : (a : Answer Header) → Stand s a (saying a) → outcomeBack s (splitRecord start len (saying a)) ≡ saying a
   unfolding if_then_else_
   said-back (ok (initial token n)) h = both _ (h .0 .to) (h .0 .from)
   said-back (ok (zeroRtt n)) h = both _ (h .to) (h .from)
@@ -83,7 +83,7 @@ module _ (s : List ℕ) (start len : ℕ) (dst src : ConnectionId) (version end 
   said-back (no k) h = rw (ne-eqb k 0 (h .0)) (go (eqb k 4) refl)
     where
       go : (b : Bool) → eqb k 4 ≡ b
-          → record { said = no k; dst = cidBack s (if b then span 6 (dst .len) else span 0 0); src = cidBack s (if b then span (7 + dst .len) (src .len) else span 0 0); version = version; end = end } ≡ saying (no k)
+          → record { said = no k; dst = cidBack s (if b then spanAt 6 (dst .len) else spanAt 0 0); src = cidBack s (if b then spanAt (7 + dst .len) (src .len) else spanAt 0 0); version = version; end = end } ≡ saying (no k)
       go true q = let w = h .1 .0 (eqb-true k 4 q) .1 in both _ (w .to) (w .from)
       go false q = let w = h .1 .1 (eqb-false k 4 q) in both _ (none-back s ∙ sym (w .to)) (none-back s ∙ sym (w .from))
 
@@ -179,7 +179,7 @@ pub record Holds (s : List ℕ) (r : SplitAnswer) : Type 0 where
 
 module _ (s : List ℕ) (at len : ℕ) (dst src : ConnectionId) (version end : ℕ) (p : at + len ≤ length s) (q : end ≤ len) where
   header-holds : (x : Header) → Stand (drop at s) (ok x) (saying (drop at s) at len dst src version end (ok x))
-      → Holds s (headerRecord at len (saying (drop at s) at len dst src version end (ok x)))
+      → Holds s (splitRecord at len (saying (drop at s) at len dst src version end (ok x)))
   unfolding if_then_else_
   header-holds (initial token n) h = record { packet = p; to = omega (arith, h); from = omega (arith, h); token = omega (arith, h); number = q }
   header-holds (zeroRtt n) h = record { packet = p; to = omega (arith, h); from = omega (arith, h); token = omega arith; number = q }

@@ -1,4 +1,4 @@
--- What header_write stores is what encode writes and the Length step then sets, for any payload of the given length. Assumes nothing.
+-- What header_write stores is what encode writes and the Length step then sets, for any payload of the given length.
 use Prim.Native.Nat.{ℕ, _+_, _^_, _≤_, _<_}
 use mathlib.Core.Path.{_≡_, refl, sym, ap, _∙_}
 use mathlib.Core.List.{List, _++_}

@@ -33,18 +33,18 @@ use Rattle.packet_out.proofs.Back.{header-back}
 use Rattle.packet_out.proofs.Again.{reads-length, first-steers, header-then, token-back}
 use Rattle.packet_out.proofs.Sent.{length-field, length-header}
 use Rattle.packet_out.proofs.Way.{split-whole}
-use Rattle.gateway.specs.Headers.{plainFor, headerFor, noHeader, Puts, Writes}
+use Rattle.gateway.specs.Headers.{plainFor, headerFor, noHeader, PutsHeader, WritesHeader}
 use Rattle.gateway.specs.Headers as headers
 use Rattle.gateway.specs.declared.records.HeaderAnswer.{HeaderAnswer}
-use Rattle.gateway_frame.specs.Spans.{span}
-use Rattle.gateway.specs.Packets.{headerRecord, splitFor}
+use Rattle.gateway_frame.specs.Spans.{spanAt}
+use Rattle.gateway.specs.Packets.{splitRecord, splitFor}
 use Rattle.gateway.specs.Arguments.{numberedKind}
 use Rattle.gateway.specs.declared.records.HeaderGiven.{HeaderGiven}
 use Rattle.gateway.specs.declared.records.SplitAnswer.{SplitAnswer}
 use Rattle.frame.specs.Table.{flag}
 use Rattle.gateway.proofs.SplitBack.{placeBack, stepBack, flag-back, flag-small, split-back}
 use Rattle.gateway.proofs.Whole.{Fit, fit}
-use Rattle.gateway.proofs.Puts.{for-no, for-ok}
+use Rattle.gateway.proofs.HeaderWrites.{for-no, for-ok}
 
 -- ---- a header that fits before its payload
 
@@ -101,7 +101,7 @@ module _ (p : Plain) (dst src : ConnectionId) (token payload : List ℕ) (local 
 
   -- the record of split
   abbrev pub answer : SplitAnswer
-  answer = headerRecord 0 (length (header ++ payload)) read
+  answer = splitRecord 0 (length (header ++ payload)) read
 
   pub splits : splitFor (header ++ payload) 0 local versions (flag grease) ≡ answer
   unfolding if_then_else_
@@ -143,7 +143,7 @@ flag-of (suc (suc n)) h = absurd (omega (arith, h))
 pub record ReadBack (h : HeaderGiven) (dst src token : List ℕ) (n : ℕ) (w : HeaderAnswer) (s : List ℕ) (r : SplitAnswer) : Type 0 where
   pub refusal : r .refusal ≡ 0
   pub kind : r .kind ≡ h .kind
-  pub packet : r .packet ≡ span 0 (w .«header_len» + n)
+  pub packet : r .packet ≡ spanAt 0 (w .«header_len» + n)
   pub number : r .«number_offset» + w .«number_len» ≡ w .«header_len»
   pub to : partOf s (placeBack (r .«dst_cid»)) ≡ dst
   pub from : (h .kind ≡ 4 → ⊥) → partOf s (placeBack (r .«src_cid»)) ≡ src
@@ -178,7 +178,7 @@ module _ (dst src token payload : List ℕ) (local : ℕ) (versions : List ℕ) 
         record {
           refusal = refusal;
           kind = kind;
-          packet = ap (span 0) (length-append (headerBy bitsOf (lengthField (numberSize p + length payload)) p (cidOf dst) (cidOf src) token) payload ∙ ap (λ (n : ℕ). n + length payload) (sym (y .long)));
+          packet = ap (spanAt 0) (length-append (headerBy bitsOf (lengthField (numberSize p + length payload)) p (cidOf dst) (cidOf src) token) payload ∙ ap (λ (n : ℕ). n + length payload) (sym (y .long)));
           number = rw (y .long, y .number) (number-there p (cidOf dst) (cidOf src) token payload local versions grease (y .fit) few (y .typed) (y .readable) a b);
           to = to-back p (cidOf dst) (cidOf src) token payload local versions grease (y .fit) few (y .typed) (y .readable) a b ∙ cid-same dst;
           from = λ e. from-back p (cidOf dst) (cidOf src) token payload local versions grease (y .fit) few (y .typed) (y .readable) a b ∙ from e;
@@ -214,11 +214,11 @@ record Sent (p : Plain) (dst src : ConnectionId) (token : List ℕ) (n : ℕ) (w
   bytes : take (w .«header_len») new ≡ headerBy bitsOf (lengthField (numberSize p + n)) p dst src token
 
 module _ (p : Plain) (dst src : ConnectionId) (token : List ℕ) (n : ℕ) (old : List ℕ) (w : HeaderAnswer) (new : List ℕ) (z : w .refusal ≡ 0) where
-  put-no : (k : ℕ) → (k ≡ 0 → ⊥) → Puts p (no k) old w new → ⊥
+  put-no : (k : ℕ) → (k ≡ 0 → ⊥) → PutsHeader p (no k) old w new → ⊥
   unfolding inRoom lengthOf partialOf
   put-no k f u = f (sym (ap (λ (x : HeaderAnswer). x .refusal) (u .says)) ∙ z)
 
-  put-ok : (bs : List ℕ) → Puts p (ok bs) old w new → (w .«header_len» ≡ length bs) × ((w .«number_len» ≡ numberSize p) × (take (w .«header_len») new ≡ bs))
+  put-ok : (bs : List ℕ) → PutsHeader p (ok bs) old w new → (w .«header_len» ≡ length bs) × ((w .«number_len» ≡ numberSize p) × (take (w .«header_len») new ≡ bs))
   unfolding inRoom lengthOf partialOf intoBuffer splice if_then_else_
   put-ok bs u = go (leb (length bs) (length old)) refl
     where
@@ -229,7 +229,7 @@ module _ (p : Plain) (dst src : ConnectionId) (token : List ℕ) (n : ℕ) (old 
           (l, (ap (λ (x : HeaderAnswer). x .«number_len») s, rw (l, rw e at (u .leaves)) (take-at bs _ (length bs) refl)))
       go false e = let s = rw e at (u .says) in absurd (omega (arith, sym (ap (λ (x : HeaderAnswer). x .refusal) s) ∙ z))
 
-  sent-with : Puts p (headerWith p dst src token n) old w new → Sent p dst src token n w new
+  sent-with : PutsHeader p (headerWith p dst src token n) old w new → Sent p dst src token n w new
   unfolding headerWith if_then_else_
   sent-with u = go (fits p dst src token n) refl
     where
@@ -250,8 +250,8 @@ record Keeps (h : HeaderGiven) (dst src len : ℕ) : Type 0 where
   from : src ≤ 20
   token : len ≤ 65527
 
-keeps : (h : HeaderGiven) (dst src token n : ℕ) → headers.outside h dst src token n ≡ false → Keeps h dst src token
-unfolding headers.outside
+keeps : (h : HeaderGiven) (dst src token n : ℕ) → headers.givenOutside h dst src token n ≡ false → Keeps h dst src token
+unfolding headers.givenOutside
 keeps h dst src token n e =
     let e6 = or-false _ _ e in
     let e5 = or-false _ _ (e6 .0) in
@@ -279,12 +279,12 @@ version-given h l =
     if-all Small _ _ _ (λ _. omega arith) (λ _. omega arith)))))
 
 pub written-back : (h : HeaderGiven) (dst src token payload old : List ℕ) (w : HeaderAnswer) (new : List ℕ) (local : ℕ) (versions : List ℕ) (grease : Bool)
-    → Writes h dst src token (length payload) old w new → w .refusal ≡ 0 → h .version < 2 ^ 32
+    → WritesHeader h dst src token (length payload) old w new → w .refusal ≡ 0 → h .version < 2 ^ 32
     → Readable (plainFor h) (cidOf dst) local versions grease → local ≤ 20 → length versions ≤ 16
     → ReadBack h dst src token (length payload) w (take (w .«header_len») new ++ payload) (splitFor (take (w .«header_len») new ++ payload) 0 local versions (flag grease))
-written-back h dst src token payload old w new local versions grease u z v d a b = go (headers.outside h (length dst) (length src) (length token) (length payload)) refl
+written-back h dst src token payload old w new local versions grease u z v d a b = go (headers.givenOutside h (length dst) (length src) (length token) (length payload)) refl
   where
-    go : (t : Bool) → headers.outside h (length dst) (length src) (length token) (length payload) ≡ t
+    go : (t : Bool) → headers.givenOutside h (length dst) (length src) (length token) (length payload) ≡ t
         → ReadBack h dst src token (length payload) w (take (w .«header_len») new ++ payload) (splitFor (take (w .«header_len») new ++ payload) 0 local versions (flag grease))
     go true e = absurd (put-no (plainFor h) (cidOf dst) (cidOf src) token (length payload) old w new z 14 (λ x. omega (arith, x)) (rw (for-no h dst src token (length payload) e) at u))
     go false e =

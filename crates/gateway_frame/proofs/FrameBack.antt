@@ -1,56 +1,24 @@
 -- A frame's record gives back what the table said, for any table whose rows have at most six fields; and so have this one's.
-use mathlib.Core.Path.{_≡_, refl, sym, ap, _∙_}
-use mathlib.Core.List.{List, [], _∷_, _++_}
+use mathlib.Core.Path.{_≡_, refl, ap, _∙_}
+use mathlib.Core.List.{List, [], _∷_}
 use mathlib.Core.Bool.{Bool, true, false, cond}
 use mathlib.Core.Option.{Option, some}
 use mathlib.Core.Option as option
-use Prim.Native.Nat.{ℕ, zero, suc, _+_, _-_, _≤_, _<_}
+use Prim.Native.Nat.{ℕ, zero, suc, _+_, _≤_}
 use native.Mathlib.Omega.{arith}
 use lib.ListN.{length, take}
-use lib.Dec.{ltb, eqb}
 use borrow.Author.Tests.{ne-eqb}
-use Rattle.coding.specs.Words.{if_then_else_, Got, cut, got, andThen, Answer, no, ok}
+use Rattle.coding.specs.Words.{if_then_else_, Answer, no, ok}
 use Rattle.coding.specs.Reading.{fixedAt, takeAt}
 use Rattle.coding.specs.Varint.{varAt}
 use Rattle.coding.specs.declared.Place.{Place}
 use Rattle.coding.proofs.Rules.{if-all, then-all}
 use Rattle.ack.specs.Scan.{rounds, scanAt}
-use Rattle.frame.specs.Format.{Value, num, place, none, Said, said, Field, var, orNone, atMost, bytes, rest, fixed, num64, cid, ackBlocks, const, last, lastButOne, inOrder, Read, done, refuse, thenRead, bytesAt, restAt, cidAt, upTo, blocksAt, fieldAt, fieldsAt, bit}
-use Rattle.frame.specs.Table.{Row, look, has, readRow, bodyAt, table, Outcome, taken, refused, outcome, frameAt, ackFields, ecnFields}
+use Rattle.frame.specs.Format.{Value, num, place, none, Said, said, Field, var, orNone, atMost, bytes, rest, fixed, num64, cid, ackBlocks, const, lastButOne, inOrder, Read, done, refuse, thenRead, bytesAt, restAt, cidAt, upTo, blocksAt, fieldAt, fieldsAt, bit}
+use Rattle.frame.specs.Table.{Row, look, has, readRow, bodyAt, table, Outcome, taken, refused, outcome, frameAt, ackFields}
 use Rattle.frame.specs.Walk.{Step, frame, end, stepAt}
 use Rattle.gateway_frame.specs.Frames.{valueOf, frameRecord, frameFor}
-use Rattle.gateway_frame.specs.declared.records.Span.{Span}
-use Rattle.gateway_frame.specs.declared.records.FrameValue.{FrameValue}
-use Rattle.gateway_frame.specs.declared.records.FrameAnswer.{FrameAnswer}
-
--- ---- the way back
-
-abbrev pub valueBack : FrameValue → Value
-valueBack v =
-    if eqb (v .kind) 1 then num (v .number) else
-    if eqb (v .kind) 2 then place (record { start = v .place .start; len = v .place .len }) else
-    none
-
-abbrev pub six : FrameAnswer → List Value
-six r =
-    valueBack (r .value0) ∷ valueBack (r .value1) ∷ valueBack (r .value2) ∷ valueBack (r .value3) ∷ valueBack (r .value4) ∷ valueBack (r .value5) ∷ []
-
--- a frame has a value for each field of its row
-abbrev pub countIn : Option Row → ℕ → ℕ
-countIn option.none t = 0
-countIn (some r) t = length (r .fields t)
-
-abbrev pub saidBack : List Row → FrameAnswer → Said
-saidBack rows r = said (r .name) (take (countIn (look rows (r .«frame_type»)) (r .«frame_type»)) (six r))
-
-abbrev pub typeBack : FrameAnswer → Option ℕ
-typeBack r = if eqb (r .«has_type») 0 then option.none else some (r .«frame_type»)
-
-abbrev pub stepBack : List Row → FrameAnswer → Step
-stepBack rows r =
-    if eqb (r .found) 1 then frame (taken (r .«frame_type») (saidBack rows r) (r .next)) else
-    if eqb (r .refusal) 0 then end else
-    frame (refused (r .refusal) (r .start) (typeBack r))
+use Rattle.gateway_frame.specs.GivesBack.{valueBack, valuesBack, countIn, AtMostSix, frameStepBack, FrameGivesBack}
 
 -- ---- what a read says: as many values as there are fields, or a refusal's number, which is not 0
 
@@ -151,7 +119,7 @@ value-back none = refl
 value-back (num n) = refl
 value-back (place p) = refl
 
-values-back : (start t name : ℕ) (vs : List Value) (next : ℕ) → length vs ≤ 6 → take (length vs) (six (frameRecord start (frame (taken t (said name vs) next)))) ≡ vs
+values-back : (start t name : ℕ) (vs : List Value) (next : ℕ) → length vs ≤ 6 → take (length vs) (valuesBack (frameRecord start (frame (taken t (said name vs) next)))) ≡ vs
 unfolding frameRecord
 values-back start t name [] next h = refl
 values-back start t name (a ∷ []) next h = simp value-back
@@ -164,26 +132,23 @@ values-back start t name (a ∷ b ∷ c ∷ d ∷ e ∷ f ∷ g ∷ vs) next h =
 
 -- ---- a step, over any table whose rows have at most six fields
 
-abbrev pub AtMostSix : List Row → Type 0
-AtMostSix rows = (t : ℕ) → countIn (look rows t) t ≤ 6
-
 module _ (rows : List Row) (few : AtMostSix rows) (at : ℕ) where
   abbrev Back : Step → Type 0
-  Back x = stepBack rows (frameRecord at x) ≡ x
+  Back x = (frameStepBack rows (frameRecord at x) ≡ x) × (frameRecord at x .start ≡ at)
 
   none-back : (k : ℕ) → (k ≡ 0 → ⊥) → Back (frame (refused k at option.none))
   unfolding frameRecord if_then_else_
-  none-back k z = rw (ne-eqb k 0 z)
+  none-back k z = (rw (ne-eqb k 0 z), refl)
 
   end-back : Back end
   unfolding frameRecord if_then_else_
-  end-back = refl
+  end-back = (refl, refl)
 
   read-back : (t : ℕ) (r : Read Said) → Fine (Counts (countIn (look rows t) t)) r → Back (frame (outcome at t r))
   unfolding outcome frameRecord if_then_else_
   read-back t (done (said name vs) n) e =
-      ap (λ (x : List Value). frame (taken t (said name x) n)) (rw (← e) (values-back at t name vs n (rw (← e) at (few t))))
-  read-back t (refuse k) z = rw (ne-eqb k 0 z)
+      (ap (λ (x : List Value). frame (taken t (said name x) n)) (rw (← e) (values-back at t name vs n (rw (← e) at (few t)))), refl)
+  read-back t (refuse k) z = (rw (ne-eqb k 0 z), refl)
 
   pub step-back : (s : List ℕ) → Back (stepAt rows s at)
   unfolding stepAt frameAt bodyAt
@@ -218,7 +183,6 @@ table-few = (λ t. omega arith, (λ t. omega arith, (λ t. ecn-few (bit 1 t), om
 pub table-six : AtMostSix table
 table-six = few-looked table table-few
 
--- a frame's record gives back what a step of the walk says
-pub frame-back : (s : List ℕ) (at : ℕ) → stepBack table (frameFor s at) ≡ stepAt table s at
+pub frame-back : FrameGivesBack
 unfolding frameFor
 frame-back s at = step-back table table-six at s

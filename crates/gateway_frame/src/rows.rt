@@ -16,10 +16,10 @@ ghost use Rattle.shared.specs.Said.{dirBit};
 ghost use Rattle.frame.specs.Format.{num, place, said};
 ghost use Rattle.frame.specs.Table.{flag};
 ghost use Rattle.frame.specs.Said.{typeValue, closeSaid, frameSaid};
-ghost use Rattle.gateway_frame.specs.Frames.{noValue, valueOf, rowWith, rowOf};
+ghost use Rattle.gateway_frame.specs.Frames.{noValue, valueOf, frameRowWith, frameRowOf};
 
 // A frame's name and its values; nothing past the last.
-pub(crate) struct Row {
+pub(crate) struct FrameRow {
     pub(crate) name: u64,
     pub(crate) value0: FrameValue,
     pub(crate) value1: FrameValue,
@@ -88,10 +88,10 @@ fn type_value(ty: TypeRead) -> FrameValue
 }
 
 // Rows of up to four values.
-fn row4(name: u64, a: FrameValue, b: FrameValue, c: FrameValue, d: FrameValue) -> Row
-    ensures { λ r. ⌜ r ≡ rowWith name (a ∷ b ∷ c ∷ d ∷ []) ⌝ }
+fn row4(name: u64, a: FrameValue, b: FrameValue, c: FrameValue, d: FrameValue) -> FrameRow
+    ensures { λ r. ⌜ r ≡ frameRowWith name (a ∷ b ∷ c ∷ d ∷ []) ⌝ }
 {
-    Row {
+    FrameRow {
         name,
         value0: a,
         value1: b,
@@ -102,64 +102,64 @@ fn row4(name: u64, a: FrameValue, b: FrameValue, c: FrameValue, d: FrameValue) -
     }
 }
 
-fn row3(name: u64, a: FrameValue, b: FrameValue, c: FrameValue) -> Row
-    ensures { λ r. ⌜ r ≡ rowWith name (a ∷ b ∷ c ∷ []) ⌝ }
+fn row3(name: u64, a: FrameValue, b: FrameValue, c: FrameValue) -> FrameRow
+    ensures { λ r. ⌜ r ≡ frameRowWith name (a ∷ b ∷ c ∷ []) ⌝ }
 {
     row4(name, a, b, c, nothing())
 }
 
-fn row2(name: u64, a: FrameValue, b: FrameValue) -> Row
-    ensures { λ r. ⌜ r ≡ rowWith name (a ∷ b ∷ []) ⌝ }
+fn row2(name: u64, a: FrameValue, b: FrameValue) -> FrameRow
+    ensures { λ r. ⌜ r ≡ frameRowWith name (a ∷ b ∷ []) ⌝ }
 {
     row3(name, a, b, nothing())
 }
 
-fn row1(name: u64, a: FrameValue) -> Row
-    ensures { λ r. ⌜ r ≡ rowWith name (a ∷ []) ⌝ }
+fn row1(name: u64, a: FrameValue) -> FrameRow
+    ensures { λ r. ⌜ r ≡ frameRowWith name (a ∷ []) ⌝ }
 {
     row2(name, a, nothing())
 }
 
-fn row0(name: u64) -> Row
-    ensures { λ r. ⌜ r ≡ rowWith name [] ⌝ }
+fn row0(name: u64) -> FrameRow
+    ensures { λ r. ⌜ r ≡ frameRowWith name [] ⌝ }
 {
     row1(name, nothing())
 }
 
 // Rows of numbers alone.
-fn numbers1(name: u64, a: u64) -> Row
-    ensures { λ r. ⌜ r ≡ rowOf (said name (num a ∷ [])) ⌝ }
+fn numbers1(name: u64, a: u64) -> FrameRow
+    ensures { λ r. ⌜ r ≡ frameRowOf (said name (num a ∷ [])) ⌝ }
 {
     row1(name, number(a))
 }
 
-fn numbers2(name: u64, a: u64, b: u64) -> Row
-    ensures { λ r. ⌜ r ≡ rowOf (said name (num a ∷ num b ∷ [])) ⌝ }
+fn numbers2(name: u64, a: u64, b: u64) -> FrameRow
+    ensures { λ r. ⌜ r ≡ frameRowOf (said name (num a ∷ num b ∷ [])) ⌝ }
 {
     row2(name, number(a), number(b))
 }
 
-fn numbers3(name: u64, a: u64, b: u64, c: u64) -> Row
-    ensures { λ r. ⌜ r ≡ rowOf (said name (num a ∷ num b ∷ num c ∷ [])) ⌝ }
+fn numbers3(name: u64, a: u64, b: u64, c: u64) -> FrameRow
+    ensures { λ r. ⌜ r ≡ frameRowOf (said name (num a ∷ num b ∷ num c ∷ [])) ⌝ }
 {
     row3(name, number(a), number(b), number(c))
 }
 
-fn numbers4(name: u64, a: u64, b: u64, c: u64, d: u64) -> Row
-    ensures { λ r. ⌜ r ≡ rowOf (said name (num a ∷ num b ∷ num c ∷ num d ∷ [])) ⌝ }
+fn numbers4(name: u64, a: u64, b: u64, c: u64, d: u64) -> FrameRow
+    ensures { λ r. ⌜ r ≡ frameRowOf (said name (num a ∷ num b ∷ num c ∷ num d ∷ [])) ⌝ }
 {
     row4(name, number(a), number(b), number(c), number(d))
 }
 
 // A number, and a place after it.
-fn number_part(name: u64, n: u64, p: Place) -> Row
-    ensures { λ r. ⌜ r ≡ rowOf (said name (num n ∷ place p ∷ [])) ⌝ }
+fn number_part(name: u64, n: u64, p: Place) -> FrameRow
+    ensures { λ r. ⌜ r ≡ frameRowOf (said name (num n ∷ place p ∷ [])) ⌝ }
 {
     row2(name, number(n), part(p))
 }
 
-fn ack_row(x: Ack) -> Row
-    ensures { λ r. ⌜ r ≡ rowOf (frameSaid (Frame.Ack x)) ⌝ }
+fn ack_row(x: Ack) -> FrameRow
+    ensures { λ r. ⌜ r ≡ frameRowOf (frameSaid (Frame.Ack x)) ⌝ }
 {
     let ecn = x.ecn;
     let largest = number(x.largest.0);
@@ -167,7 +167,7 @@ fn ack_row(x: Ack) -> Row
     let blocks = part(x.additional);
     match ecn {
         AckEcn::Nothing => row3(0x02, largest, delay, blocks),
-        AckEcn::Counts(counts) => Row {
+        AckEcn::Counts(counts) => FrameRow {
             name: 0x02,
             value0: largest,
             value1: delay,
@@ -179,10 +179,10 @@ fn ack_row(x: Ack) -> Row
     }
 }
 
-fn stream_row(x: Stream) -> Row
-    ensures { λ r. ⌜ r ≡ rowOf (frameSaid (Frame.Stream x)) ⌝ }
+fn stream_row(x: Stream) -> FrameRow
+    ensures { λ r. ⌜ r ≡ frameRowOf (frameSaid (Frame.Stream x)) ⌝ }
 {
-    Row {
+    FrameRow {
         name: 0x08,
         value0: number(x.id.0),
         value1: number(x.offset),
@@ -193,8 +193,8 @@ fn stream_row(x: Stream) -> Row
     }
 }
 
-fn new_cid_row(x: NewConnectionId) -> Row
-    ensures { λ r. ⌜ r ≡ rowOf (frameSaid (Frame.NewConnectionId x)) ⌝ }
+fn new_cid_row(x: NewConnectionId) -> FrameRow
+    ensures { λ r. ⌜ r ≡ frameRowOf (frameSaid (Frame.NewConnectionId x)) ⌝ }
 {
     row4(
         0x18,
@@ -205,8 +205,8 @@ fn new_cid_row(x: NewConnectionId) -> Row
     )
 }
 
-fn close_row(x: Close) -> Row
-    ensures { λ r. ⌜ r ≡ rowOf (closeSaid x) ⌝ }
+fn close_row(x: Close) -> FrameRow
+    ensures { λ r. ⌜ r ≡ frameRowOf (closeSaid x) ⌝ }
 {
     match x {
         Close::Connection(c) => {
@@ -218,8 +218,8 @@ fn close_row(x: Close) -> Row
 }
 
 // A frame by its row.
-pub(crate) fn row_of(frame: Frame) -> Row
-    ensures { λ r. ⌜ r ≡ rowOf (frameSaid frame) ⌝ }
+pub(crate) fn row_of(frame: Frame) -> FrameRow
+    ensures { λ r. ⌜ r ≡ frameRowOf (frameSaid frame) ⌝ }
 {
     match frame {
         Frame::Padding => row0(0x00),
