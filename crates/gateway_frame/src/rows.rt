@@ -10,6 +10,7 @@ use frame::NewConnectionId;
 use frame::Stream;
 use frame::TypeRead;
 use shared::Dir;
+use shared::FrameType;
 ghost use mathlib.Core.Path.{_≡_};
 ghost use mathlib.Core.List.{[], _∷_};
 ghost use Rattle.shared.specs.Said.{dirBit};
@@ -17,6 +18,11 @@ ghost use Rattle.frame.specs.Format.{num, place, said};
 ghost use Rattle.frame.specs.Table.{flag};
 ghost use Rattle.frame.specs.Said.{typeValue, closeSaid, frameSaid};
 ghost use Rattle.gateway_frame.specs.Frames.{noValue, valueOf, frameRowWith, frameRowOf};
+
+// The first type of a STREAM frame and of a DATAGRAM frame.
+const STREAM: u64 = 0x08;
+
+const DATAGRAM: u64 = 0x30;
 
 // A frame's name and its values; nothing past the last.
 pub(crate) struct FrameRow {
@@ -166,9 +172,9 @@ fn ack_row(x: Ack) -> FrameRow
     let delay = number(x.delay);
     let blocks = part(x.additional);
     match ecn {
-        AckEcn::Nothing => row3(0x02, largest, delay, blocks),
+        AckEcn::Nothing => row3(FrameType::ACK.0, largest, delay, blocks),
         AckEcn::Counts(counts) => FrameRow {
-            name: 0x02,
+            name: FrameType::ACK.0,
             value0: largest,
             value1: delay,
             value2: blocks,
@@ -183,7 +189,7 @@ fn stream_row(x: Stream) -> FrameRow
     ensures { λ r. ⌜ r ≡ frameRowOf (frameSaid (Frame.Stream x)) ⌝ }
 {
     FrameRow {
-        name: 0x08,
+        name: STREAM,
         value0: number(x.id.0),
         value1: number(x.offset),
         value2: number(bit(x.fin)),
@@ -197,7 +203,7 @@ fn new_cid_row(x: NewConnectionId) -> FrameRow
     ensures { λ r. ⌜ r ≡ frameRowOf (frameSaid (Frame.NewConnectionId x)) ⌝ }
 {
     row4(
-        0x18,
+        FrameType::NEW_CONNECTION_ID.0,
         number(x.sequence),
         number(x.retire_prior_to),
         part(x.id),
@@ -211,9 +217,18 @@ fn close_row(x: Close) -> FrameRow
     match x {
         Close::Connection(c) => {
             let ty = c.frame_type;
-            row3(0x1c, number(c.error_code), type_value(ty), part(c.reason))
+            row3(
+                FrameType::CONNECTION_CLOSE.0,
+                number(c.error_code),
+                type_value(ty),
+                part(c.reason),
+            )
         }
-        Close::Application(c) => number_part(0x1d, c.error_code, c.reason),
+        Close::Application(c) => number_part(
+            FrameType::APPLICATION_CLOSE.0,
+            c.error_code,
+            c.reason,
+        ),
     }
 }
 
@@ -222,34 +237,54 @@ pub(crate) fn row_of(frame: Frame) -> FrameRow
     ensures { λ r. ⌜ r ≡ frameRowOf (frameSaid frame) ⌝ }
 {
     match frame {
-        Frame::Padding => row0(0x00),
-        Frame::Ping => row0(0x01),
+        Frame::Padding => row0(FrameType::PADDING.0),
+        Frame::Ping => row0(FrameType::PING.0),
         Frame::Ack(x) => ack_row(x),
-        Frame::ResetStream(x) => numbers3(0x04, x.id.0, x.error_code, x.final_offset),
-        Frame::StopSending(x) => numbers2(0x05, x.id.0, x.error_code),
-        Frame::Crypto(x) => number_part(0x06, x.offset, x.data),
-        Frame::NewToken(x) => row1(0x07, part(x.token)),
+        Frame::ResetStream(x) => numbers3(
+            FrameType::RESET_STREAM.0,
+            x.id.0,
+            x.error_code,
+            x.final_offset,
+        ),
+        Frame::StopSending(x) => numbers2(FrameType::STOP_SENDING.0, x.id.0, x.error_code),
+        Frame::Crypto(x) => number_part(FrameType::CRYPTO.0, x.offset, x.data),
+        Frame::NewToken(x) => row1(FrameType::NEW_TOKEN.0, part(x.token)),
         Frame::Stream(x) => stream_row(x),
-        Frame::MaxData(n) => numbers1(0x10, n),
-        Frame::MaxStreamData { id, offset } => numbers2(0x11, id.0, offset),
-        Frame::MaxStreams { dir, count } => numbers2(0x12, way(dir), count),
-        Frame::DataBlocked { offset } => numbers1(0x14, offset),
-        Frame::StreamDataBlocked { id, offset } => numbers2(0x15, id.0, offset),
-        Frame::StreamsBlocked { dir, limit } => numbers2(0x16, way(dir), limit),
+        Frame::MaxData(n) => numbers1(FrameType::MAX_DATA.0, n),
+        Frame::MaxStreamData { id, offset } => numbers2(FrameType::MAX_STREAM_DATA.0, id.0, offset),
+        Frame::MaxStreams { dir, count } => numbers2(
+            FrameType::MAX_STREAMS_BIDI.0,
+            way(dir),
+            count,
+        ),
+        Frame::DataBlocked { offset } => numbers1(FrameType::DATA_BLOCKED.0, offset),
+        Frame::StreamDataBlocked { id, offset } => numbers2(
+            FrameType::STREAM_DATA_BLOCKED.0,
+            id.0,
+            offset,
+        ),
+        Frame::StreamsBlocked { dir, limit } => numbers2(
+            FrameType::STREAMS_BLOCKED_BIDI.0,
+            way(dir),
+            limit,
+        ),
         Frame::NewConnectionId(x) => new_cid_row(x),
-        Frame::RetireConnectionId { sequence } => numbers1(0x19, sequence),
-        Frame::PathChallenge(n) => numbers1(0x1a, n),
-        Frame::PathResponse(n) => numbers1(0x1b, n),
+        Frame::RetireConnectionId { sequence } => numbers1(
+            FrameType::RETIRE_CONNECTION_ID.0,
+            sequence,
+        ),
+        Frame::PathChallenge(n) => numbers1(FrameType::PATH_CHALLENGE.0, n),
+        Frame::PathResponse(n) => numbers1(FrameType::PATH_RESPONSE.0, n),
         Frame::Close(x) => close_row(x),
-        Frame::Datagram(x) => number_part(0x30, bit(x.len), x.data),
+        Frame::Datagram(x) => number_part(DATAGRAM, bit(x.len), x.data),
         Frame::AckFrequency(x) => numbers4(
-            0xaf,
+            FrameType::ACK_FREQUENCY.0,
             x.sequence,
             x.ack_eliciting_threshold,
             x.request_max_ack_delay,
             x.reordering_threshold,
         ),
-        Frame::ImmediateAck => row0(0x1f),
-        Frame::HandshakeDone => row0(0x1e),
+        Frame::ImmediateAck => row0(FrameType::IMMEDIATE_ACK.0),
+        Frame::HandshakeDone => row0(FrameType::HANDSHAKE_DONE.0),
     }
 }
