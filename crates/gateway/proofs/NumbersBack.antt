@@ -1,10 +1,8 @@
 -- A step of the number ends over the surface is the call on the ends themselves: what it says and what it leaves are given back.
-use Prim.Native.Nat.{ℕ, _+_, _-_, _^_}
-use mathlib.Core.Path.{_≡_, refl, sym, ap, _∙_}
-use mathlib.Core.Bool.{Bool, true, false, _||_}
+use Prim.Native.Nat.{ℕ}
+use mathlib.Core.Path.{_≡_, refl, sym}
 use native.Mathlib.Omega.{arith}
-use lib.Dec.{ltb, leb, eqb}
-use borrow.Author.Tests.{ne-eqb, lt-ltb}
+use borrow.Author.Tests.{ne-eqb}
 use Rattle.coding.specs.Words.{if_then_else_, Answer, no, ok}
 use Rattle.coding.proofs.Rules.{if-all}
 use Rattle.shared.specs.declared.kinds.CutNumber.{CutNumber}
@@ -12,24 +10,10 @@ use Rattle.number.specs.Cutting.{cut, cutTo, cutMade}
 use Rattle.number.specs.Expanding.{expanded}
 use Rattle.number.specs.Ends.{SoFar, none, at, baseOf, Ends, Call, Packet, sendWith, sendBy, acknowledgeBy, readBy, acceptBy}
 use Rattle.number.proofs.Calls.{send-refused, acknowledge-refused, accept-refused}
-use Rattle.gateway.specs.Numbers.{soFar, hasOf, endsIn, endsOut, unkept, sentRecord, keptRecord, readRecord, numberFor}
+use Rattle.gateway.specs.Numbers.{soFar, hasOf, endsIn, endsOut, sentRecord, keptRecord, readRecord}
+use Rattle.gateway.specs.GivesBack.{answerBack, callBack, packetBack, StepIsCall, RefusedIsSame}
 use Rattle.gateway.specs.declared.records.NumberEnds.{NumberEnds}
 use Rattle.gateway.specs.declared.records.NumberAnswer.{NumberAnswer}
-
-abbrev pub answerBack : {A : Type 0} → (NumberAnswer → A) → NumberAnswer → Answer A
-answerBack f r = if eqb (r .refusal) 0 then ok (f r) else no (r .refusal)
-
-abbrev pub callBack : {A : Type 0} → (NumberAnswer → A) → NumberAnswer → Call A
-callBack f r = record { says = answerBack f r; leaves = endsIn (r .ends) }
-
-abbrev pub packetBack : NumberAnswer → Packet
-packetBack r = record { number = r .number; carries = cut (r .«number_len») (r .«number_value») }
-
-pub record StepsAs (e : NumberEnds) (n len value : ℕ) : Type 0 where
-  pub sends : callBack packetBack (numberFor 0 e n len value) ≡ sendBy (endsIn e)
-  pub acknowledges : callBack (λ r. tt) (numberFor 1 e n len value) ≡ acknowledgeBy (endsIn e) n
-  pub reads : answerBack (λ r. r .number) (numberFor 2 e n len value) ≡ readBy (endsIn e) (cut len value)
-  pub accepts : callBack (λ r. tt) (numberFor 3 e n len value) ≡ acceptBy (endsIn e) n
 
 -- ---- the ends
 
@@ -102,39 +86,37 @@ module _ (e : NumberEnds) where
   read-back (ok n) h = refl
   read-back (no k) h = rw (ne-eqb k 0 h)
 
-  module _ (n len value : ℕ) where
-    pub steps-as : unkept e ≡ false → StepsAs e n len value
-    unfolding if_then_else_
-    steps-as u =
-        let c : Ends = endsIn e in
-        record {
-          sends = rw u (sent-back (sendBy c .says) (sendBy c .leaves) (send-refuses c) (send-refused c));
-          acknowledges = rw u (kept-back (acknowledgeBy c n .says) (acknowledgeBy c n .leaves) (acknowledge-refuses c n) (λ k. acknowledge-refused c k n));
-          reads = rw u (read-back (readBy c (cut len value)) (read-refuses c (cut len value)));
-          accepts = rw u (kept-back (acceptBy c n .says) (acceptBy c n .leaves) (accept-refuses c n) (λ k. accept-refused c k n));
-        }
+  abbrev Same : NumberAnswer → Type 0
+  Same r = (r .refusal ≡ 0 → ⊥) → r .ends ≡ e
 
-    abbrev Same : NumberAnswer → Type 0
-    Same r = (r .refusal ≡ 0 → ⊥) → r .ends ≡ e
+  sent-same : (a : Answer Packet) (after : Ends) → Same (sentRecord e (record { says = a; leaves = after }))
+  sent-same (ok p) after h = absurd (h refl)
+  sent-same (no k) after h = refl
 
-    sent-same : (a : Answer Packet) (after : Ends) → Same (sentRecord e (record { says = a; leaves = after }))
-    sent-same (ok p) after h = absurd (h refl)
-    sent-same (no k) after h = refl
+  kept-same : (a : Answer Unit) (after : Ends) → Same (keptRecord e (record { says = a; leaves = after }))
+  kept-same (ok u) after h = absurd (h refl)
+  kept-same (no k) after h = refl
 
-    kept-same : (a : Answer Unit) (after : Ends) → Same (keptRecord e (record { says = a; leaves = after }))
-    kept-same (ok u) after h = absurd (h refl)
-    kept-same (no k) after h = refl
+  read-same : (a : Answer ℕ) → Same (readRecord e a)
+  read-same (ok m) h = refl
+  read-same (no k) h = refl
 
-    read-same : (a : Answer ℕ) → Same (readRecord e a)
-    read-same (ok m) h = refl
-    read-same (no k) h = refl
+pub steps-as : StepIsCall
+unfolding if_then_else_
+steps-as e n len value u =
+    let c : Ends = endsIn e in
+    record {
+      sends = rw u (sent-back e (sendBy c .says) (sendBy c .leaves) (send-refuses c) (send-refused c));
+      acknowledges = rw u (kept-back e (acknowledgeBy c n .says) (acknowledgeBy c n .leaves) (acknowledge-refuses c n) (λ k. acknowledge-refused c k n));
+      reads = rw u (read-back e (readBy c (cut len value)) (read-refuses c (cut len value)));
+      accepts = rw u (kept-back e (acceptBy c n .says) (acceptBy c n .leaves) (accept-refuses c n) (λ k. accept-refused c k n));
+    }
 
-    -- a refused step hands back the very record
-    pub refused-same : (step : ℕ) → Same (numberFor step e n len value)
-    refused-same step =
-        let c : Ends = endsIn e in
-        if-all Same _ _ _ (λ _ _. refl) (λ _.
-        if-all Same _ _ _ (λ _. sent-same (sendBy c .says) (sendBy c .leaves)) (λ _.
-        if-all Same _ _ _ (λ _. kept-same (acknowledgeBy c n .says) (acknowledgeBy c n .leaves)) (λ _.
-        if-all Same _ _ _ (λ _. read-same (readBy c (cut len value))) (λ _.
-        if-all Same _ _ _ (λ _. kept-same (acceptBy c n .says) (acceptBy c n .leaves)) (λ _ _. refl)))))
+pub refused-same : RefusedIsSame
+refused-same step e n len value =
+    let c : Ends = endsIn e in
+    if-all (Same e) _ _ _ (λ _ _. refl) (λ _.
+    if-all (Same e) _ _ _ (λ _. sent-same e (sendBy c .says) (sendBy c .leaves)) (λ _.
+    if-all (Same e) _ _ _ (λ _. kept-same e (acknowledgeBy c n .says) (acknowledgeBy c n .leaves)) (λ _.
+    if-all (Same e) _ _ _ (λ _. read-same e (readBy c (cut len value))) (λ _.
+    if-all (Same e) _ _ _ (λ _. kept-same e (acceptBy c n .says) (acceptBy c n .leaves)) (λ _ _. refl)))))

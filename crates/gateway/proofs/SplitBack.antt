@@ -1,61 +1,29 @@
 -- A record of split gives back what the step of the walk says, and all that it names lies in the packet.
-use mathlib.Core.Path.{_≡_, refl, sym, ap, _∙_}
+use mathlib.Core.Path.{_≡_, refl, sym, _∙_}
 use mathlib.Core.List.{List, []}
-use mathlib.Core.Bool.{Bool, true, false, not}
+use mathlib.Core.Bool.{Bool, true, false}
 use mathlib.Core.Option.{Option, none, some}
 use Prim.Native.Nat.{ℕ, _+_, _≤_, _<_}
 use native.Mathlib.Omega.{arith}
-use lib.ListN.{length, drop, length-drop, drop-of-length-le}
-use lib.Dec.{ltb, leb, eqb}
-use borrow.Author.Tests.{le-leb, eq-eqb, ne-eqb, eqb-true, eqb-false, leb-false}
+use lib.ListN.{length, drop, length-drop}
+use lib.Dec.{ltb, eqb}
+use borrow.Author.Tests.{le-leb, ne-eqb, eqb-true, eqb-false, leb-false}
 use Rattle.coding.specs.Words.{if_then_else_, Answer, no, ok}
 use Rattle.coding.specs.Places.{partOf}
 use Rattle.coding.specs.Reading.{takeAt}
-use Rattle.coding.specs.declared.Place.{Place}
 use Rattle.coding.proofs.Rules.{if-all, then-all}
 use Rattle.shared.specs.Cid.{cidOf}
 use Rattle.shared.specs.declared.cid.ConnectionId.{ConnectionId}
 use Rattle.frame.specs.Table.{flag}
 use Rattle.packet.specs.TypeBits.{typeOf}
-use Rattle.packet.specs.Header.{Header, initial, zeroRtt, handshake, retry, short, negotiate, Outcome, refuse, outside, headerAt, lengthIn}
+use Rattle.packet.specs.Header.{Header, initial, zeroRtt, handshake, retry, short, negotiate, Outcome, refuse, headerAt, lengthIn}
 use Rattle.packet.specs.Split.{Split, cutAt, noPacket, splitBy, splitOn, splitAt}
-use Rattle.packet.specs.Walk.{Met, ended, packet, stopped, Step, metOn, stepOn, stopAt, stepAt}
+use Rattle.packet.specs.Walk.{ended, packet, Step, metOn, stepOn, stopAt, stepAt}
 use Rattle.packet.proofs.Splits.{split-taken}
 use Rattle.gateway_frame.specs.Spans.{spanAt}
-use Rattle.gateway_frame.specs.declared.records.Span.{Span}
-use Rattle.gateway.specs.Packets.{splitRecord, stepRecord, splitFor}
-use Rattle.gateway.specs.declared.records.SplitAnswer.{SplitAnswer}
+use Rattle.gateway.specs.Packets.{splitRecord, stepRecord}
+use Rattle.gateway.specs.GivesBack.{named, outcomeBack, metBack, walkStepBack, SplitGivesBack, Holds, SplitHolds}
 use Rattle.gateway.proofs.Stands.{Stand, Stands, refuse-stands, header-stands}
-
-abbrev pub placeBack : Span → Place
-placeBack p = record { start = p .start; len = p .len }
-
-abbrev pub cidBack : List ℕ → Span → ConnectionId
-cidBack s p = cidOf (partOf s (placeBack p))
-
-abbrev pub headerBack : SplitAnswer → Answer Header
-headerBack r =
-    if not (eqb (r .refusal) 0) then no (r .refusal) else
-    if eqb (r .kind) 0 then ok (initial (placeBack (r .token)) (r .length)) else
-    if eqb (r .kind) 1 then ok (zeroRtt (r .length)) else
-    if eqb (r .kind) 2 then ok (handshake (r .length)) else
-    if eqb (r .kind) 3 then ok retry else
-    if eqb (r .kind) 4 then ok (short (eqb (r .spin) 1)) else
-    if eqb (r .kind) 5 then ok (negotiate (r .random)) else
-    no 1
-
-abbrev pub outcomeBack : List ℕ → SplitAnswer → Outcome
-outcomeBack s r =
-    record { said = headerBack r; dst = cidBack s (r .«dst_cid»); src = cidBack s (r .«src_cid»); version = r .version; end = r .«number_offset» }
-
-abbrev pub metBack : SplitAnswer → Met
-metBack r =
-    if not (eqb (r .kind) 6) then packet (r .packet .start) (r .packet .len) else
-    if eqb (r .refusal) 0 then ended else
-    stopped (r .packet .start)
-
-abbrev pub stepBack : List ℕ → SplitAnswer → Step
-stepBack s r = record { met = metBack r; header = outcomeBack (drop (r .packet .start) s) r }
 
 -- ---- the records
 
@@ -83,7 +51,7 @@ module _ (s : List ℕ) (start len : ℕ) (dst src : ConnectionId) (version end 
   said-back (no k) h = rw (ne-eqb k 0 (h .0)) (go (eqb k 4) refl)
     where
       go : (b : Bool) → eqb k 4 ≡ b
-          → record { said = no k; dst = cidBack s (if b then spanAt 6 (dst .len) else spanAt 0 0); src = cidBack s (if b then spanAt (7 + dst .len) (src .len) else spanAt 0 0); version = version; end = end } ≡ saying (no k)
+          → record { said = no k; dst = cidOf (named s (if b then spanAt 6 (dst .len) else spanAt 0 0)); src = cidOf (named s (if b then spanAt (7 + dst .len) (src .len) else spanAt 0 0)); version = version; end = end } ≡ saying (no k)
       go true q = let w = h .1 .0 (eqb-true k 4 q) .1 in both _ (w .to) (w .from)
       go false q = let w = h .1 .1 (eqb-false k 4 q) in both _ (none-back s ∙ sym (w .to)) (none-back s ∙ sym (w .from))
 
@@ -127,7 +95,7 @@ split-header P s local versions grease p q = on (headerAt s local versions greas
 module _ (s : List ℕ) (at : ℕ) where
   -- a step that says a, over a packet of len bytes
   on-back : (len : ℕ) (dst src : ConnectionId) (version end : ℕ) (a : Answer Header) → Stand (drop at s) a (saying (drop at s) at len dst src version end a)
-      → stepBack s (stepRecord at (record { met = metOn a at len; header = saying (drop at s) at len dst src version end a }))
+      → walkStepBack s (stepRecord at (record { met = metOn a at len; header = saying (drop at s) at len dst src version end a }))
       ≡ record { met = metOn a at len; header = saying (drop at s) at len dst src version end a }
   unfolding metOn
   on-back len dst src version end (ok x) h = λ i.
@@ -136,11 +104,11 @@ module _ (s : List ℕ) (at : ℕ) where
       record { met = met-back (drop at s) at len dst src version end (no k) h i; header = said-back (drop at s) at 0 dst src version end (no k) h i }
 
   outcome-back : (len : ℕ) (o : Outcome) → Stands (drop at s) o
-      → stepBack s (stepRecord at (record { met = metOn (o .said) at len; header = o })) ≡ record { met = metOn (o .said) at len; header = o }
+      → walkStepBack s (stepRecord at (record { met = metOn (o .said) at len; header = o })) ≡ record { met = metOn (o .said) at len; header = o }
   outcome-back len o h = on-back len (o .dst) (o .src) (o .version) (o .end) (o .said) h
 
   abbrev Back : Step → Type 0
-  Back x = stepBack s (stepRecord at x) ≡ x
+  Back x = walkStepBack s (stepRecord at x) ≡ x
 
   stop-back : (k : ℕ) → (k ≡ 0 → ⊥) → (k ≡ 4 → ⊥) → Back (stopAt at k)
   unfolding stopAt metOn refuse
@@ -156,26 +124,18 @@ module _ (s : List ℕ) (at : ℕ) where
         split-header (Stands (drop at s)) (drop at s) local versions grease (header-stands (drop at s) typeOf local versions grease)
         (refuse-stands (drop at s) 7 (λ z. omega (arith, z)) (λ z. omega (arith, z)))
 
-    step-back : stepBack s (stepRecord at (stepAt s at local versions grease)) ≡ stepAt s at local versions grease
+    step-back : walkStepBack s (stepRecord at (stepAt s at local versions grease)) ≡ stepAt s at local versions grease
     unfolding stepAt stepOn
     step-back =
         if-all Back _ _ _ (λ b. stop-back 14 (λ z. omega (arith, z)) (λ z. omega (arith, z))) (λ b.
         if-all Back _ _ _ (λ c. stop-back 1 (λ z. omega (arith, z)) (λ z. omega (arith, z))) (λ c.
         if-all Back _ _ _ (λ d. end-back) (λ d. outcome-back _ _ split-stands)))
 
-    pub split-back : stepBack s (splitFor s at local versions (flag grease)) ≡ stepAt s at local versions grease
-    unfolding if_then_else_
-    split-back = rw (flag-small grease, flag-back grease) step-back
+pub split-back : SplitGivesBack
+unfolding if_then_else_
+split-back s at local versions grease = rw (flag-small grease, flag-back grease) (step-back s at local versions grease)
 
 -- ---- where there is a packet
-
--- it lies in the datagram, and all that its record names lies in it, before its number
-pub record Holds (s : List ℕ) (r : SplitAnswer) : Type 0 where
-  pub packet : r .packet .start + r .packet .len ≤ length s
-  pub to : r .«dst_cid» .start + r .«dst_cid» .len ≤ r .«number_offset»
-  pub from : r .«src_cid» .start + r .«src_cid» .len ≤ r .«number_offset»
-  pub token : r .token .start + r .token .len ≤ r .«number_offset»
-  pub number : r .«number_offset» ≤ r .packet .len
 
 module _ (s : List ℕ) (at len : ℕ) (dst src : ConnectionId) (version end : ℕ) (p : at + len ≤ length s) (q : end ≤ len) where
   header-holds : (x : Header) → Stand (drop at s) (ok x) (saying (drop at s) at len dst src version end (ok x))
@@ -217,6 +177,6 @@ module _ (s : List ℕ) (at local : ℕ) (versions : List ℕ) (grease : Bool) w
       if-all Inside _ _ _ (λ c. stop-inside 1) (λ c.
       if-all Inside _ _ _ (λ d h. absurd (omega (arith, h))) (λ d. split-inside (leb-false _ _ d))))
 
-  pub split-holds : splitFor s at local versions (flag grease) .kind < 6 → Holds s (splitFor s at local versions (flag grease))
-  unfolding if_then_else_
-  split-holds = rw (flag-small grease, flag-back grease) step-inside
+pub split-holds : SplitHolds
+unfolding if_then_else_
+split-holds s at local versions grease = rw (flag-small grease, flag-back grease) (step-inside s at local versions grease)

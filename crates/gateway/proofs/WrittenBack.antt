@@ -1,15 +1,15 @@
 -- What header_write stores, split reads back, whatever the payload behind it.
-use Prim.Native.Nat.{ℕ, zero, suc, _+_, _/_, _%_, _^_, _≤_, _<_}
+use Prim.Native.Nat.{ℕ, zero, suc, _+_, _%_, _^_, _≤_, _<_}
 use mathlib.Core.Path.{_≡_, refl, sym, ap, _∙_}
-use mathlib.Core.List.{List, [], _∷_, _++_}
+use mathlib.Core.List.{List, _++_}
 use mathlib.Core.Bool.{Bool, true, false, _||_}
 use native.Mathlib.Omega.{arith}
-use lib.ListN.{length, take, drop, replicate, length-append, length-replicate}
+use lib.ListN.{length, take, length-append, length-replicate}
 use lib.Seq.{take-at}
-use lib.Dec.{ltb, leb, eqb}
-use borrow.Author.Tests.{leb-true, ltb-false, le-ltb, lt-leb, ne-eqb}
-use Rattle.coding.specs.Words.{if_then_else_, Answer, no, ok}
-use Rattle.coding.specs.Bytes.{bytesBE, splice}
+use lib.Dec.{leb, eqb}
+use borrow.Author.Tests.{ltb-false, le-ltb, lt-leb, ne-eqb}
+use Rattle.coding.specs.Words.{if_then_else_, no, ok}
+use Rattle.coding.specs.Bytes.{splice}
 use Rattle.coding.specs.Places.{partOf}
 use Rattle.coding.specs.Writing.{inRoom, lengthOf, intoBuffer}
 use Rattle.coding.proofs.Laws.{length-bytesBE}
@@ -20,29 +20,30 @@ use Rattle.shared.proofs.Back.{cid-same}
 use Rattle.shared.specs.declared.kinds.CutNumber.{CutNumber}
 use Rattle.number.specs.Cutting.{cut}
 use Rattle.packet.specs.Header.{Outcome, outside, headed, headerAt}
-use Rattle.packet.specs.Split.{cutAt, splitAt}
+use Rattle.packet.specs.Split.{cutAt}
 use Rattle.packet.specs.Walk.{packet, Step, metOn, stepOn, stepAt}
 use Rattle.packet.specs.TypeBits.{typeOf, bitsOf}
 use Rattle.packet.proofs.Types.{table}
-use Rattle.packet_out.specs.Encoding.{Plain, initial, zeroRtt, handshake, retry, short, negotiate, numberIn, numberLenIn, shapeBy, lengthBytes, numberField, headerBy, headerBytes, placeholder, partialOf}
+use Rattle.packet_out.specs.Encoding.{Plain, initial, numberIn, numberLenIn, shapeBy, lengthBytes, numberField, headerBy, placeholder, partialOf}
 use Rattle.packet_out.specs.Length.{lengthField}
 use Rattle.packet_out.specs.Back.{kindRead, versionRead, srcRead, tokenPlace, endRead, readAs, Readable, Typed}
 use Rattle.packet_out.specs.Before.{numberSize, fits, headerWith}
-use Rattle.packet_out.proofs.Laws.{Kept, kept, length-shape, length-some, length-small}
+use Rattle.packet_out.proofs.Laws.{kept, length-shape, length-some, length-small}
 use Rattle.packet_out.proofs.Back.{header-back}
 use Rattle.packet_out.proofs.Again.{reads-length, first-steers, header-then, token-back}
 use Rattle.packet_out.proofs.Sent.{length-field, length-header}
 use Rattle.packet_out.proofs.Way.{split-whole}
-use Rattle.gateway.specs.Headers.{plainFor, headerFor, noHeader, PutsHeader, WritesHeader}
+use Rattle.gateway.specs.Headers.{plainFor, PutsHeader}
 use Rattle.gateway.specs.Headers as headers
 use Rattle.gateway.specs.declared.records.HeaderAnswer.{HeaderAnswer}
 use Rattle.gateway_frame.specs.Spans.{spanAt}
 use Rattle.gateway.specs.Packets.{splitRecord, splitFor}
+use Rattle.gateway.specs.GivesBack.{named, walkStepBack, ReadBack, WrittenIsRead}
 use Rattle.gateway.specs.Arguments.{numberedKind}
 use Rattle.gateway.specs.declared.records.HeaderGiven.{HeaderGiven}
 use Rattle.gateway.specs.declared.records.SplitAnswer.{SplitAnswer}
 use Rattle.frame.specs.Table.{flag}
-use Rattle.gateway.proofs.SplitBack.{placeBack, stepBack, flag-back, flag-small, split-back}
+use Rattle.gateway.proofs.SplitBack.{flag-back, flag-small, split-back}
 use Rattle.gateway.proofs.Whole.{Fit, fit}
 use Rattle.gateway.proofs.HeaderWrites.{for-no, for-ok}
 
@@ -107,18 +108,18 @@ module _ (p : Plain) (dst src : ConnectionId) (token payload : List ℕ) (local 
   unfolding if_then_else_
   splits = rw (flag-small grease, flag-back grease, steps)
 
-  back : stepBack (header ++ payload) answer ≡ record { met = packet 0 (length (header ++ payload)); header = read }
+  back : walkStepBack (header ++ payload) answer ≡ record { met = packet 0 (length (header ++ payload)); header = read }
   back = rw splits at (split-back (header ++ payload) 0 local versions grease) ∙ steps
 
-  pub to-back : partOf (header ++ payload) (placeBack (answer .«dst_cid»)) ≡ cidBytes dst
+  pub to-back : named (header ++ payload) (answer .«dst_cid») ≡ cidBytes dst
   unfolding read readAs headed
   to-back =
-      sym (cid-same (partOf (header ++ payload) (placeBack (answer .«dst_cid»)))) ∙ ap (λ (x : Step). cidBytes (x .header .dst)) back ∙ cid-same (cidBytes dst)
+      sym (cid-same (named (header ++ payload) (answer .«dst_cid»))) ∙ ap (λ (x : Step). cidBytes (x .header .dst)) back ∙ cid-same (cidBytes dst)
 
-  pub from-back : partOf (header ++ payload) (placeBack (answer .«src_cid»)) ≡ srcRead p src
+  pub from-back : named (header ++ payload) (answer .«src_cid») ≡ srcRead p src
   unfolding read readAs headed
   from-back =
-      sym (cid-same (partOf (header ++ payload) (placeBack (answer .«src_cid»)))) ∙ ap (λ (x : Step). cidBytes (x .header .src)) back ∙ cid-same (srcRead p src)
+      sym (cid-same (named (header ++ payload) (answer .«src_cid»))) ∙ ap (λ (x : Step). cidBytes (x .header .src)) back ∙ cid-same (srcRead p src)
 
   pub token-there : shapeBy bitsOf p .hasToken ≡ true → partOf (header ++ payload) (tokenPlace p dst src token) ≡ token
   token-there h = rw (header-then bitsOf (lengthField counted) p dst src token payload) (token-back p dst src (shapeBy bitsOf p .first) token (lengthField counted) (numberField (numberIn p) ++ payload) h)
@@ -139,21 +140,6 @@ flag-of zero h = refl
 flag-of (suc zero) h = refl
 flag-of (suc (suc n)) h = absurd (omega (arith, h))
 
--- the record r of split, of a datagram s that begins with the header, against what header_write was given and answered
-pub record ReadBack (h : HeaderGiven) (dst src token : List ℕ) (n : ℕ) (w : HeaderAnswer) (s : List ℕ) (r : SplitAnswer) : Type 0 where
-  pub refusal : r .refusal ≡ 0
-  pub kind : r .kind ≡ h .kind
-  pub packet : r .packet ≡ spanAt 0 (w .«header_len» + n)
-  pub number : r .«number_offset» + w .«number_len» ≡ w .«header_len»
-  pub to : partOf s (placeBack (r .«dst_cid»)) ≡ dst
-  pub from : (h .kind ≡ 4 → ⊥) → partOf s (placeBack (r .«src_cid»)) ≡ src
-  pub version : h .kind < 4 → r .version ≡ h .version
-  pub named : h .kind ≡ 0 → partOf s (placeBack (r .token)) ≡ token
-  pub counts : h .kind < 3 → r .length ≡ h .«number_len» + n
-  pub cut : numberedKind (h .kind) ≡ true → w .«number_len» ≡ h .«number_len»
-  pub spin : h .kind ≡ 4 → r .spin ≡ h .spin
-  pub random : h .kind ≡ 5 → r .random ≡ h .random % 0x80
-
 module _ (dst src token payload : List ℕ) (local : ℕ) (versions : List ℕ) (grease : Bool) (few : length token ≤ 65527) (a : local ≤ 20) (b : length versions ≤ 16) (w : HeaderAnswer) where
   -- what is known of p, and so what is left to say of its kind
   pub record Ready (p : Plain) : Type 0 where
@@ -171,10 +157,10 @@ module _ (dst src token payload : List ℕ) (local : ℕ) (versions : List ℕ) 
     sent = headerBy bitsOf (lengthField (numberSize p + length payload)) p (cidOf dst) (cidOf src) token ++ payload
 
     make : (h : HeaderGiven) → said .refusal ≡ 0 → said .kind ≡ h .kind → ((h .kind ≡ 4 → ⊥) → srcRead p (cidOf src) ≡ src)
-        → (h .kind < 4 → said .version ≡ h .version) → (h .kind ≡ 0 → partOf sent (placeBack (said .token)) ≡ token)
+        → (h .kind < 4 → said .version ≡ h .version) → (h .kind ≡ 0 → named sent (said .token) ≡ token)
         → (h .kind < 3 → said .length ≡ h .«number_len» + length payload) → (numberedKind (h .kind) ≡ true → numberSize p ≡ h .«number_len»)
         → (h .kind ≡ 4 → said .spin ≡ h .spin) → (h .kind ≡ 5 → said .random ≡ h .random % 0x80) → ReadBack h dst src token (length payload) w sent said
-    make h refusal kind from version named counts cut spin random =
+    make h refusal kind from version carries counts cut spin random =
         record {
           refusal = refusal;
           kind = kind;
@@ -183,7 +169,7 @@ module _ (dst src token payload : List ℕ) (local : ℕ) (versions : List ℕ) 
           to = to-back p (cidOf dst) (cidOf src) token payload local versions grease (y .fit) few (y .typed) (y .readable) a b ∙ cid-same dst;
           from = λ e. from-back p (cidOf dst) (cidOf src) token payload local versions grease (y .fit) few (y .typed) (y .readable) a b ∙ from e;
           version = version;
-          named = named;
+          carries = carries;
           counts = counts;
           cut = λ e. y .number ∙ cut e;
           spin = spin;
@@ -278,10 +264,7 @@ version-given h l =
     if-all Small _ _ _ (λ _. l) (λ _.
     if-all Small _ _ _ (λ _. omega arith) (λ _. omega arith)))))
 
-pub written-back : (h : HeaderGiven) (dst src token payload old : List ℕ) (w : HeaderAnswer) (new : List ℕ) (local : ℕ) (versions : List ℕ) (grease : Bool)
-    → WritesHeader h dst src token (length payload) old w new → w .refusal ≡ 0 → h .version < 2 ^ 32
-    → Readable (plainFor h) (cidOf dst) local versions grease → local ≤ 20 → length versions ≤ 16
-    → ReadBack h dst src token (length payload) w (take (w .«header_len») new ++ payload) (splitFor (take (w .«header_len») new ++ payload) 0 local versions (flag grease))
+pub written-back : WrittenIsRead
 written-back h dst src token payload old w new local versions grease u z v d a b = go (headers.givenOutside h (length dst) (length src) (length token) (length payload)) refl
   where
     go : (t : Bool) → headers.givenOutside h (length dst) (length src) (length token) (length payload) ≡ t
