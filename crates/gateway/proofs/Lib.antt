@@ -1,5 +1,5 @@
 -- `MaskCases` and `HeaderWrites` serve the functions' proofs. `Stands` has where the connection ids of a header stand; `SplitBack`,
--- `WrittenBack` and `NumbersBack` prove what the records give back (specs/GivesBack). `Whole`: what header_write stores is what
+-- `UnmaskBack`, `WrittenBack` and `NumbersBack` prove what the records give back (specs/GivesBack). `Whole`: what header_write stores is what
 -- encode writes and the Length step sets. `Onces`: each exported function has only one answer.
 pub mod MaskCases
 pub mod HeaderWrites
@@ -8,4 +8,5 @@ pub mod Stands
 pub mod SplitBack
 pub mod WrittenBack
 pub mod NumbersBack
+pub mod UnmaskBack
 pub mod Onces

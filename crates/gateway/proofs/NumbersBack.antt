@@ -28,11 +28,11 @@ ends-back e i = record { next = e .next; acked = so-far-back (e .acked) i; large
 
 -- ---- a refusal's number is not 0
 
-abbrev Refuses : {A : Type 0} → Answer A → Type 0
+abbrev pub Refuses : {A : Type 0} → Answer A → Type 0
 Refuses (ok a) = Unit
 Refuses (no k) = k ≡ 0 → ⊥
 
-fourteen : _≡_ {A = ℕ} 14 0 → ⊥
+pub fourteen : _≡_ {A = ℕ} 14 0 → ⊥
 fourteen z = omega (arith, z)
 
 cut-refuses : (n acked : ℕ) → Refuses (cutMade n acked)

@@ -160,7 +160,7 @@ module _ (dst src token payload : List ℕ) (local : ℕ) (versions : List ℕ) 
         → (h .kind < 4 → said .version ≡ h .version) → (h .kind ≡ 0 → named sent (said .token) ≡ token)
         → (h .kind < 3 → said .length ≡ h .«number_len» + length payload) → (numberedKind (h .kind) ≡ true → numberSize p ≡ h .«number_len»)
         → (h .kind ≡ 4 → said .spin ≡ h .spin) → (h .kind ≡ 5 → said .random ≡ h .random % 0x80) → ReadBack h dst src token (length payload) w sent said
-    make h refusal kind from version carries counts cut spin random =
+    make h refusal kind from version names counts agrees spin random =
         record {
           refusal = refusal;
           kind = kind;
@@ -169,9 +169,9 @@ module _ (dst src token payload : List ℕ) (local : ℕ) (versions : List ℕ) 
           to = to-back p (cidOf dst) (cidOf src) token payload local versions grease (y .fit) few (y .typed) (y .readable) a b ∙ cid-same dst;
           from = λ e. from-back p (cidOf dst) (cidOf src) token payload local versions grease (y .fit) few (y .typed) (y .readable) a b ∙ from e;
           version = version;
-          carries = carries;
+          names = names;
           counts = counts;
-          cut = λ e. y .number ∙ cut e;
+          agrees = λ e. y .number ∙ agrees e;
           spin = spin;
           random = random;
         }

@@ -1,27 +1,34 @@
 -- What the records give back: what `packet`, `number` and the caller of header_write said. The maps here undo those of Packets and
--- Numbers; the laws are proved in proofs/SplitBack, WrittenBack and NumbersBack.
+-- Numbers; the laws are proved in proofs/SplitBack, UnmaskBack,
+-- WrittenBack and NumbersBack.
 use Prim.Native.Nat.{ℕ, _+_, _%_, _^_, _≤_, _<_}
 use mathlib.Core.Path.{_≡_}
 use mathlib.Core.List.{List, _++_}
 use mathlib.Core.Bool.{Bool, true, false, not}
+use mathlib.Core.Option.{Option, none, some, Option·elim}
 use lib.ListN.{length, take, drop}
 use lib.Dec.{eqb}
 use Rattle.coding.specs.Words.{if_then_else_, Answer, no, ok}
 use Rattle.coding.specs.Places.{partOf}
+use Rattle.coding.specs.declared.Place.{Place}
 use Rattle.shared.specs.Cid.{cidOf}
 use Rattle.number.specs.Cutting.{cut}
 use Rattle.number.specs.Ends.{Call, Packet, sendBy, acknowledgeBy, readBy, acceptBy}
-use Rattle.packet.specs.Header.{Header, initial, zeroRtt, handshake, retry, short, negotiate, Outcome}
+use Rattle.packet.specs.Header.{Header, initial, zeroRtt, handshake, retry, short, negotiate, Outcome, kindOf, isLong, spaceIn}
 use Rattle.packet.specs.Walk.{Met, ended, packet, stopped, Step, stepAt}
+use Rattle.protect.specs.Steps.{readOff, sampleAt, Opened, finishAt, finished, headerPlace, payloadPlace}
+use Rattle.protect.specs.Steps as opened
 use Rattle.packet_out.specs.Back.{Readable}
 use Rattle.frame.specs.Table.{flag}
 use Rattle.gateway_frame.specs.Spans.{spanAt, placeBack}
 use Rattle.gateway_frame.specs.declared.records.Span.{Span}
-use Rattle.gateway.specs.Arguments.{numberedKind}
-use Rattle.gateway.specs.Packets.{splitFor}
+use Rattle.gateway.specs.Arguments.{longKind, numberedKind}
+use Rattle.gateway.specs.Packets.{splitFor, sampleFor, UnmasksPacket}
 use Rattle.gateway.specs.Numbers.{endsIn, unkept, numberFor}
 use Rattle.gateway.specs.Headers.{plainFor, WritesHeader}
 use Rattle.gateway.specs.declared.records.SplitAnswer.{SplitAnswer}
+use Rattle.gateway.specs.declared.records.SampleAnswer.{SampleAnswer}
+use Rattle.gateway.specs.declared.records.UnmaskAnswer.{UnmaskAnswer}
 use Rattle.gateway.specs.declared.records.NumberEnds.{NumberEnds}
 use Rattle.gateway.specs.declared.records.NumberAnswer.{NumberAnswer}
 use Rattle.gateway.specs.declared.records.HeaderGiven.{HeaderGiven}
@@ -83,6 +90,39 @@ SplitHolds =
     (s : List ℕ) (at local : ℕ) (versions : List ℕ) (grease : Bool)
     → splitFor s at local versions (flag grease) .kind < 6 → Holds s (splitFor s at local versions (flag grease))
 
+-- ---- sample_place and unmask
+
+abbrev pub sampleBack : SampleAnswer → Answer (Option Place)
+sampleBack r =
+    if not (eqb (r .refusal) 0) then no (r .refusal) else
+    if eqb (r .sample .len) 0 then ok none else
+    ok (some (placeBack (r .sample)))
+
+abbrev pub SampleGivesBack : Type 0
+SampleGivesBack = (kind : ℕ) (s : List ℕ) (at : ℕ) → kind ≤ 5 → sampleBack (sampleFor kind s at) ≡ sampleAt (numberedKind kind) s at
+
+abbrev pub openedBack : Bool → Bool → UnmaskAnswer → Answer Opened
+openedBack numbered isLong r =
+    if not (eqb (r .refusal) 0) then no (r .refusal) else
+    if not numbered then ok opened.unnumbered else
+    if isLong then ok (opened.long (r .«number_len») (r .«number_value») (eqb (r .«reserved_clear») 1)) else
+    ok (opened.short (r .«number_len») (r .«number_value») (eqb (r .«reserved_clear») 1) (eqb (r .«key_phase») 1))
+
+-- unmask of the packet s answers r: what finish says; and, where there is a number, the header and the payload are finish's parts
+pub record OpensAs (numbered isLong : Bool) (s : List ℕ) (at : ℕ) (mask : List ℕ) (r : UnmaskAnswer) : Type 0 where
+  pub says : openedBack numbered isLong r ≡ readOff (finished numbered isLong at) (finishAt numbered isLong s at mask)
+  pub header : numbered ≡ true → r .refusal ≡ 0 → placeBack (r .header) ≡ headerPlace at (some (r .«number_len»))
+  pub payload : numbered ≡ true → r .refusal ≡ 0 → placeBack (r .payload) ≡ payloadPlace at (some (r .«number_len»)) (length s)
+
+abbrev pub UnmaskGivesBack : Type 0
+UnmaskGivesBack =
+    (kind : ℕ) (s : List ℕ) (at : ℕ) (mask : List ℕ) (r : UnmaskAnswer) (new : List ℕ) → kind ≤ 5 → length mask ≡ 5
+    → UnmasksPacket kind s at mask r new → OpensAs (numberedKind kind) (longKind kind) s at mask r
+
+-- the kinds by number are those that decode reads: which are long, and which have a number and so a number space
+abbrev pub KindsAgree : Type 0
+KindsAgree = (h : Header) → (longKind (kindOf h) ≡ isLong (ok h)) × (numberedKind (kindOf h) ≡ Option·elim (spaceIn (ok h)) false (λ n. true))
+
 -- ---- header_write, then split
 
 -- header_write was given h, dst, src and token, for a payload of n bytes, and answered w; of the datagram s split answers r
@@ -94,9 +134,9 @@ pub record ReadBack (h : HeaderGiven) (dst src token : List ℕ) (n : ℕ) (w : 
   pub to : named s (r .«dst_cid») ≡ dst
   pub from : (h .kind ≡ 4 → ⊥) → named s (r .«src_cid») ≡ src
   pub version : h .kind < 4 → r .version ≡ h .version
-  pub carries : h .kind ≡ 0 → named s (r .token) ≡ token
+  pub names : h .kind ≡ 0 → named s (r .token) ≡ token
   pub counts : h .kind < 3 → r .length ≡ h .«number_len» + n
-  pub cut : numberedKind (h .kind) ≡ true → w .«number_len» ≡ h .«number_len»
+  pub agrees : numberedKind (h .kind) ≡ true → w .«number_len» ≡ h .«number_len»
   pub spin : h .kind ≡ 4 → r .spin ≡ h .spin
   pub random : h .kind ≡ 5 → r .random ≡ h .random % 0x80
 
