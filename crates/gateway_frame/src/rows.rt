@@ -9,11 +9,9 @@ use frame::Frame;
 use frame::NewConnectionId;
 use frame::Stream;
 use frame::TypeRead;
-use shared::Dir;
 use shared::FrameType;
 ghost use mathlib.Core.Path.{_≡_};
 ghost use mathlib.Core.List.{[], _∷_};
-ghost use Rattle.shared.specs.Said.{dirBit};
 ghost use Rattle.frame.specs.Format.{num, place, said};
 ghost use Rattle.frame.specs.Table.{flag};
 ghost use Rattle.frame.specs.Said.{typeValue, closeSaid, frameSaid};
@@ -35,7 +33,7 @@ pub(crate) struct FrameRow {
     pub(crate) value5: FrameValue,
 }
 
-// What a value of a row is: nothing, a number, a place; a bool and a direction as numbers.
+// What a value of a row is: nothing, a number, a place; a bool as a number.
 pub(crate) fn nothing() -> FrameValue
     ensures { λ r. ⌜ r ≡ noValue ⌝ }
 {
@@ -73,15 +71,6 @@ fn bit(b: bool) -> u64
     ensures { λ r. ⌜ r ≡ flag b ⌝ }
 {
     if b { 1 } else { 0 }
-}
-
-fn way(dir: Dir) -> u64
-    ensures { λ r. ⌜ r ≡ dirBit dir ⌝ }
-{
-    match dir {
-        Dir::Bi => 0,
-        Dir::Uni => 1,
-    }
 }
 
 fn type_value(ty: TypeRead) -> FrameValue
@@ -254,7 +243,7 @@ pub(crate) fn row_of(frame: Frame) -> FrameRow
         Frame::MaxStreamData { id, offset } => numbers2(FrameType::MAX_STREAM_DATA.0, id.0, offset),
         Frame::MaxStreams { dir, count } => numbers2(
             FrameType::MAX_STREAMS_BIDI.0,
-            way(dir),
+            dir.bit(),
             count,
         ),
         Frame::DataBlocked { offset } => numbers1(FrameType::DATA_BLOCKED.0, offset),
@@ -265,7 +254,7 @@ pub(crate) fn row_of(frame: Frame) -> FrameRow
         ),
         Frame::StreamsBlocked { dir, limit } => numbers2(
             FrameType::STREAMS_BLOCKED_BIDI.0,
-            way(dir),
+            dir.bit(),
             limit,
         ),
         Frame::NewConnectionId(x) => new_cid_row(x),
