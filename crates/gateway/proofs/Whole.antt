@@ -1,4 +1,4 @@
--- What header_write stores is what encode writes and the Length step then sets, for any payload of the given length. Assumes nothing.
+-- What header_write stores is what encode writes and the Length step then sets, for any payload of the given length.
 use Prim.Native.Nat.{ℕ, _+_, _^_, _≤_, _<_}
 use mathlib.Core.Path.{_≡_, refl, sym, ap, _∙_}
 use mathlib.Core.List.{List, _++_}
@@ -20,13 +20,13 @@ use Rattle.packet_out.proofs.LengthAndMask.{sets}
 use Rattle.packet_out.specs.Before.{roomy, numberSize, lengthFits, fits, headerWith}
 
 -- what fits
-record Fit (p : Plain) (dst src : ConnectionId) (token : List ℕ) (n : ℕ) : Type 0 where
-  rules : keepRules (plainNumber p) dst src ≡ true
-  all : length (headerBytes p dst src token) + n ≤ 65527
-  len : lengthFits (shapeBy bitsOf p .hasLength) (numberSize p + n) ≡ true
+pub record Fit (p : Plain) (dst src : ConnectionId) (token : List ℕ) (n : ℕ) : Type 0 where
+  pub rules : keepRules (numberIn p) dst src ≡ true
+  pub all : length (headerBytes p dst src token) + n ≤ 65527
+  pub len : lengthFits (shapeBy bitsOf p .hasLength) (numberSize p + n) ≡ true
 
 module _ (p : Plain) (dst src : ConnectionId) (token : List ℕ) (n : ℕ) where
-  fit : fits p dst src token n ≡ true → Fit p dst src token n
+  pub fit : fits p dst src token n ≡ true → Fit p dst src token n
   unfolding fits roomy
   fit = go (keepRules (plainNumber p) dst src) (leb (length (headerBytes p dst src token) + n) 65527) (lengthFits (shapeBy bitsOf p .hasLength) (numberSize p + n)) refl refl refl
     where

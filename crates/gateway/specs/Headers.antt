@@ -18,8 +18,8 @@ use Rattle.gateway.specs.declared.records.HeaderAnswer.{HeaderAnswer}
 
 -- an argument is outside its rule, whatever the kind makes of it: the kind, the flags, the lengths of connection ids, token and
 -- payload
-unfoldable pub outside : HeaderGiven → ℕ → ℕ → ℕ → ℕ → Bool
-outside h dst src token n =
+unfoldable pub givenOutside : HeaderGiven → ℕ → ℕ → ℕ → ℕ → Bool
+givenOutside h dst src token n =
     ltb 5 (h .kind) || ltb 1 (h .spin) || ltb 1 (h .«key_phase») || ltb 20 dst || ltb 20 src || ltb 65527 token || ltb 65527 n
 
 -- the header by its kind; what a kind does not have is not looked at
@@ -37,20 +37,20 @@ abbrev pub noHeader : ℕ → HeaderAnswer
 noHeader k = record { refusal = k; «has_length» = 0; «header_len» = 0; «number_len» = 0 }
 
 -- what a header was written with, as a record
-abbrev pub headerRecord : Answer Partial → HeaderAnswer
-headerRecord (no k) = noHeader k
-headerRecord (ok x) =
+abbrev pub writtenRecord : Answer Partial → HeaderAnswer
+writtenRecord (no k) = noHeader k
+writtenRecord (ok x) =
     record { refusal = 0; «has_length» = flag (x .hasLength); «header_len» = x .headerLen; «number_len» = numberBytes (x .number) }
 
 -- writing w for the header p into the buffer `old` answers r and leaves `new`: 15 where the header does not fit
-pub record Puts (p : Plain) (w : Answer (List ℕ)) (old : List ℕ) (r : HeaderAnswer) (new : List ℕ) : Type 0 where
-  pub says : r ≡ headerRecord (partialOf p (lengthOf (inRoom (length old) w)))
+pub record PutsHeader (p : Plain) (w : Answer (List ℕ)) (old : List ℕ) (r : HeaderAnswer) (new : List ℕ) : Type 0 where
+  pub says : r ≡ writtenRecord (partialOf p (lengthOf (inRoom (length old) w)))
   pub leaves : new ≡ intoBuffer (inRoom (length old) w) old
 
 -- the header, with its Length; 14 where an argument is outside its rule, or something does not fit
 unfoldable pub headerFor : HeaderGiven → List ℕ → List ℕ → List ℕ → ℕ → Answer (List ℕ)
 headerFor h dst src token n =
-    if outside h (length dst) (length src) (length token) n then no 14 else headerWith (plainFor h) (cidOf dst) (cidOf src) token n
+    if givenOutside h (length dst) (length src) (length token) n then no 14 else headerWith (plainFor h) (cidOf dst) (cidOf src) token n
 
-abbrev pub Writes : HeaderGiven → List ℕ → List ℕ → List ℕ → ℕ → List ℕ → HeaderAnswer → List ℕ → Type 0
-Writes h dst src token n = Puts (plainFor h) (headerFor h dst src token n)
+abbrev pub WritesHeader : HeaderGiven → List ℕ → List ℕ → List ℕ → ℕ → List ℕ → HeaderAnswer → List ℕ → Type 0
+WritesHeader h dst src token n = PutsHeader (plainFor h) (headerFor h dst src token n)

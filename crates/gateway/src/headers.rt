@@ -9,9 +9,9 @@ use packet_out::Header;
 use shared::CutNumber;
 ghost use mathlib.Core.Path.{_≡_};
 ghost use Rattle.packet_out.specs.Said.{plainOf, encodedOf};
-ghost use Rattle.gateway.specs.Headers.{outside, plainFor, noHeader, headerRecord};
+ghost use Rattle.gateway.specs.Headers.{givenOutside, plainFor, noHeader, writtenRecord};
 
-// Whether an argument is outside its rule, whatever the kind of header makes of it.
+// Whether an argument is givenOutside its rule, whatever the kind of header makes of it.
 pub(crate) fn is_outside(
     h: HeaderGiven,
     dst: usize,
@@ -19,7 +19,7 @@ pub(crate) fn is_outside(
     token: usize,
     payload: usize,
 ) -> bool
-    ensures { λ r. ⌜ r ≡ outside h dst src token payload ⌝ }
+    ensures { λ r. ⌜ r ≡ givenOutside h dst src token payload ⌝ }
 {
     if 5 < h.kind {
         return true;
@@ -84,7 +84,7 @@ pub(crate) fn no_header(refusal: u8) -> HeaderAnswer
 
 // What a header was written with, as a record.
 pub(crate) fn header_record(e: Encoded) -> HeaderAnswer
-    ensures { λ r. ⌜ r ≡ headerRecord (encodedOf e) ⌝ }
+    ensures { λ r. ⌜ r ≡ writtenRecord (encodedOf e) ⌝ }
 {
     match e {
         Encoded::Partial(p) => {

@@ -19,9 +19,9 @@ pub use records::SplitAnswer;
 pub use records::UnmaskAnswer;
 ghost use mathlib.Core.Path.{_≡_};
 ghost use Rattle.gateway_frame.specs.Frames.{frameFor};
-ghost use Rattle.gateway.specs.Packets.{splitFor, sampleFor, Unmasks, Masks};
+ghost use Rattle.gateway.specs.Packets.{splitFor, sampleFor, UnmasksPacket, MasksPacket};
 ghost use Rattle.gateway.specs.Numbers.{numberFor};
-ghost use Rattle.gateway.specs.Headers.{Writes};
+ghost use Rattle.gateway.specs.Headers.{WritesHeader};
 
 // The packet at a place of a datagram; the next step is at its end. `local_cid_len` is the length of the CIDs that we hand out,
 // `versions` what we speak.
@@ -67,7 +67,7 @@ pub extern "C" fn guobbarel_unmask(
     number_offset: usize,
     mask: &[u8],
 ) -> UnmaskAnswer
-    ensures { λ r. ⌜ Unmasks kind (now (packet .entry)) «number_offset» (now (mask .entry)) r (now (packet .exit)) ⌝ }
+    ensures { λ r. ⌜ UnmasksPacket kind (now (packet .entry)) «number_offset» (now (mask .entry)) r (now (packet .exit)) ⌝ }
 {
     if 5 < kind {
         return packets::not_opened(14);
@@ -124,7 +124,7 @@ pub extern "C" fn guobbarel_header_write(
     payload_len: usize,
     out: &mut [u8],
 ) -> HeaderAnswer
-    ensures { λ r. ⌜ Writes header (now («dst_cid» .entry)) (now («src_cid» .entry)) (now (token .entry)) «payload_len» (now (out .entry)) r (now (out .exit)) ⌝ }
+    ensures { λ r. ⌜ WritesHeader header (now («dst_cid» .entry)) (now («src_cid» .entry)) (now (token .entry)) «payload_len» (now (out .entry)) r (now (out .exit)) ⌝ }
 {
     if headers::is_outside(
         header,
@@ -155,7 +155,7 @@ pub extern "C" fn guobbarel_mask(
     packet: &mut [u8],
     mask: &[u8],
 ) -> u8
-    ensures { λ r. ⌜ Masks «header_len» «number_len» «has_length» (now (packet .entry)) (now (mask .entry)) r (now (packet .exit)) ⌝ }
+    ensures { λ r. ⌜ MasksPacket «header_len» «number_len» «has_length» (now (packet .entry)) (now (mask .entry)) r (now (packet .exit)) ⌝ }
 {
     if 1 < has_length {
         return 14;

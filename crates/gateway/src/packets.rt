@@ -20,7 +20,7 @@ ghost use Rattle.frame.specs.Table.{flag};
 ghost use Rattle.packet.specs.Said.{headerOf, outcomeOf, packetStepOf};
 ghost use Rattle.protect.specs.Said.{longHeader, numberedOf, numberLenOf, sampleOf, finishedOf};
 ghost use Rattle.gateway.specs.Arguments.{longKind, numberedKind, numberGiven};
-ghost use Rattle.gateway.specs.Packets.{headerHas, headerRefused, numbersOf, dstAt, srcAt, headerRecord, noPacket, stepRecord, noSample, sampleRecord, headerSpan, payloadSpan, notOpened, openedWith, unmaskRecord};
+ghost use Rattle.gateway.specs.Packets.{headerHas, headerRefused, saidNumbers, dstAt, srcAt, splitRecord, noPacketRecord, stepRecord, noSample, sampleRecord, headerSpan, payloadSpan, notOpened, openedWith, unmaskRecord};
 
 // What a header alone has.
 pub(crate) struct HeaderNumbers {
@@ -101,7 +101,7 @@ fn header_refused(refusal: u8) -> HeaderNumbers
 }
 
 fn numbers_of(header: ProtectedHeader) -> HeaderNumbers
-    ensures { λ r. ⌜ r ≡ numbersOf (headerOf header) ⌝ }
+    ensures { λ r. ⌜ r ≡ saidNumbers (headerOf header) ⌝ }
 {
     let nowhere = Place { start: 0, len: 0 };
     match header {
@@ -154,7 +154,7 @@ fn src_place(refusal: u8, kind: u8, dst: u8, len: u8) -> Span
 
 // A packet of len bytes at a place of the datagram, or a refusal there.
 fn header_record(start: usize, len: usize, plain: Decoded) -> SplitAnswer
-    ensures { λ r. ⌜ r ≡ headerRecord start len (outcomeOf plain) ⌝ }
+    ensures { λ r. ⌜ r ≡ splitRecord start len (outcomeOf plain) ⌝ }
 {
     let header = plain.header;
     let n = numbers_of(header);
@@ -178,7 +178,7 @@ fn header_record(start: usize, len: usize, plain: Decoded) -> SplitAnswer
 
 // No packet: kind 6. The refusal is 0 at the end of the datagram.
 pub(crate) fn no_packet(refusal: u8, start: usize) -> SplitAnswer
-    ensures { λ r. ⌜ r ≡ noPacket refusal start ⌝ }
+    ensures { λ r. ⌜ r ≡ noPacketRecord refusal start ⌝ }
 {
     SplitAnswer {
         refusal,

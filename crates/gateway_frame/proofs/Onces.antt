@@ -1,4 +1,4 @@
--- Only one answer meets the contract of each public function. Assumes nothing.
+-- Only one answer meets the contract of each public function.
 use mathlib.Core.Path.{_∙_, sym}
 use Rattle.coding.specs.Once.{Once}
 use Rattle.gateway_frame.proofs.read as read

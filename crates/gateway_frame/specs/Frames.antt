@@ -10,19 +10,19 @@ use Rattle.coding.specs.Words.{if_then_else_}
 use Rattle.coding.specs.Bytes.{byteAt}
 use Rattle.frame.specs.Format.{Value, num, place, none, Said, said}
 use Rattle.frame.specs.Table.{table, taken, refused}
-use Rattle.frame.specs.Walk.{WalkStep, frame, end, stepAt}
-use Rattle.gateway_frame.specs.Spans.{span, spanOf}
+use Rattle.frame.specs.Walk.{Step, frame, end, stepAt}
+use Rattle.gateway_frame.specs.Spans.{spanAt, spanOf}
 use Rattle.gateway_frame.specs.declared.records.FrameValue.{FrameValue}
 use Rattle.gateway_frame.specs.declared.records.FrameAnswer.{FrameAnswer}
-use Rattle.gateway_frame.specs.declared.rows.Row.{Row}
+use Rattle.gateway_frame.specs.declared.rows.FrameRow.{FrameRow}
 
 -- a value: 0 nothing, 1 a number, 2 a place in the payload
 abbrev pub noValue : FrameValue
-noValue = record { kind = 0; number = 0; place = span 0 0 }
+noValue = record { kind = 0; number = 0; place = spanAt 0 0 }
 
 abbrev pub valueOf : Value → FrameValue
 valueOf none = noValue
-valueOf (num n) = record { kind = 1; number = n; place = span 0 0 }
+valueOf (num n) = record { kind = 1; number = n; place = spanAt 0 0 }
 valueOf (place p) = record { kind = 2; number = 0; place = spanOf p }
 
 abbrev pub valuesOf : List Value → List FrameValue
@@ -30,31 +30,31 @@ valuesOf [] = []
 valuesOf (v ∷ vs) = valueOf v ∷ valuesOf vs
 
 -- the first value, and the others; past the last there is nothing. No row has more than six
-abbrev pub head : List FrameValue → FrameValue
-head [] = noValue
-head (v ∷ vs) = v
+abbrev pub firstValue : List FrameValue → FrameValue
+firstValue [] = noValue
+firstValue (v ∷ vs) = v
 
-abbrev pub tail : List FrameValue → List FrameValue
-tail [] = []
-tail (v ∷ vs) = vs
+abbrev pub otherValues : List FrameValue → List FrameValue
+otherValues [] = []
+otherValues (v ∷ vs) = vs
 
-abbrev pub rowWith : ℕ → List FrameValue → Row
-rowWith name vs =
+abbrev pub frameRowWith : ℕ → List FrameValue → FrameRow
+frameRowWith name vs =
     record {
       name = name;
-      value0 = head vs;
-      value1 = head (tail vs);
-      value2 = head (tail (tail vs));
-      value3 = head (tail (tail (tail vs)));
-      value4 = head (tail (tail (tail (tail vs))));
-      value5 = head (tail (tail (tail (tail (tail vs)))));
+      value0 = firstValue vs;
+      value1 = firstValue (otherValues vs);
+      value2 = firstValue (otherValues (otherValues vs));
+      value3 = firstValue (otherValues (otherValues (otherValues vs)));
+      value4 = firstValue (otherValues (otherValues (otherValues (otherValues vs))));
+      value5 = firstValue (otherValues (otherValues (otherValues (otherValues (otherValues vs)))));
     }
 
-abbrev pub rowOf : Said → Row
-rowOf (said name vs) = rowWith name (valuesOf vs)
+abbrev pub frameRowOf : Said → FrameRow
+frameRowOf (said name vs) = frameRowWith name (valuesOf vs)
 
 -- a frame that was read: where it starts, its type as it was read, its row, and the place past it
-abbrev pub foundRecord : ℕ → ℕ → Row → ℕ → FrameAnswer
+abbrev pub foundRecord : ℕ → ℕ → FrameRow → ℕ → FrameAnswer
 foundRecord start t row next =
     record {
       refusal = 0;
@@ -100,8 +100,8 @@ abbrev pub frameRefused : ℕ → ℕ → Option ℕ → FrameAnswer
 frameRefused k start option.none = noFrame k 0 start 0
 frameRefused k start (some t) = noFrame k 1 start t
 
-unfoldable pub frameRecord : ℕ → WalkStep → FrameAnswer
-frameRecord at (frame (taken t f next)) = foundRecord at t (rowOf f) next
+unfoldable pub frameRecord : ℕ → Step → FrameAnswer
+frameRecord at (frame (taken t f next)) = foundRecord at t (frameRowOf f) next
 frameRecord at (frame (refused k start t)) = frameRefused k start t
 frameRecord at end = noFrame 0 0 at 0
 

@@ -3,8 +3,12 @@ use Prim.Native.Nat.{ℕ}
 use Rattle.coding.specs.declared.Place.{Place}
 use Rattle.gateway_frame.specs.declared.records.Span.{Span}
 
-abbrev pub span : ℕ → ℕ → Span
-span start len = record { start = start; len = len }
+abbrev pub spanAt : ℕ → ℕ → Span
+spanAt start len = record { start = start; len = len }
 
 abbrev pub spanOf : Place → Span
-spanOf p = span (p .start) (p .len)
+spanOf p = spanAt (p .start) (p .len)
+
+-- and back
+abbrev pub placeBack : Span → Place
+placeBack p = record { start = p .start; len = p .len }

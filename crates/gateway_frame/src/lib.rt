@@ -13,11 +13,11 @@ pub use records::Span;
 use shared::FrameType;
 ghost use mathlib.Core.Path.{_≡_};
 ghost use Rattle.frame.specs.Said.{frameSaid, typeSeen, stepOf};
-ghost use Rattle.gateway_frame.specs.Frames.{rowOf, foundRecord, noValues, noFrame, frameRefused, frameRecord, frameFor, isPadding, paddingRecord};
+ghost use Rattle.gateway_frame.specs.Frames.{frameRowOf, foundRecord, noValues, noFrame, frameRefused, frameRecord, frameFor, isPadding, paddingRecord};
 
 // A frame that was read.
 fn found(start: usize, ty: FrameType, frame: Frame, next: usize) -> FrameAnswer
-    ensures { λ r. ⌜ r ≡ foundRecord start (ty .0) (rowOf (frameSaid frame)) next ⌝ }
+    ensures { λ r. ⌜ r ≡ foundRecord start (ty .0) (frameRowOf (frameSaid frame)) next ⌝ }
 {
     let row = rows::row_of(frame);
     let value0 = row.value0;

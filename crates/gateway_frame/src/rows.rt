@@ -9,17 +9,21 @@ use frame::Frame;
 use frame::NewConnectionId;
 use frame::Stream;
 use frame::TypeRead;
-use shared::Dir;
+use shared::FrameType;
 ghost use mathlib.Core.Path.{_≡_};
 ghost use mathlib.Core.List.{[], _∷_};
-ghost use Rattle.shared.specs.Said.{dirBit};
 ghost use Rattle.frame.specs.Format.{num, place, said};
 ghost use Rattle.frame.specs.Table.{flag};
 ghost use Rattle.frame.specs.Said.{typeValue, closeSaid, frameSaid};
-ghost use Rattle.gateway_frame.specs.Frames.{noValue, valueOf, rowWith, rowOf};
+ghost use Rattle.gateway_frame.specs.Frames.{noValue, valueOf, frameRowWith, frameRowOf};
+
+// The first type of a STREAM frame and of a DATAGRAM frame.
+const STREAM: u64 = 0x08;
+
+const DATAGRAM: u64 = 0x30;
 
 // A frame's name and its values; nothing past the last.
-pub(crate) struct Row {
+pub(crate) struct FrameRow {
     pub(crate) name: u64,
     pub(crate) value0: FrameValue,
     pub(crate) value1: FrameValue,
@@ -29,7 +33,7 @@ pub(crate) struct Row {
     pub(crate) value5: FrameValue,
 }
 
-// What a value of a row is: nothing, a number, a place; a bool and a direction as numbers.
+// What a value of a row is: nothing, a number, a place; a bool as a number.
 pub(crate) fn nothing() -> FrameValue
     ensures { λ r. ⌜ r ≡ noValue ⌝ }
 {
@@ -69,15 +73,6 @@ fn bit(b: bool) -> u64
     if b { 1 } else { 0 }
 }
 
-fn way(dir: Dir) -> u64
-    ensures { λ r. ⌜ r ≡ dirBit dir ⌝ }
-{
-    match dir {
-        Dir::Bi => 0,
-        Dir::Uni => 1,
-    }
-}
-
 fn type_value(ty: TypeRead) -> FrameValue
     ensures { λ r. ⌜ r ≡ valueOf (typeValue ty) ⌝ }
 {
@@ -88,10 +83,10 @@ fn type_value(ty: TypeRead) -> FrameValue
 }
 
 // Rows of up to four values.
-fn row4(name: u64, a: FrameValue, b: FrameValue, c: FrameValue, d: FrameValue) -> Row
-    ensures { λ r. ⌜ r ≡ rowWith name (a ∷ b ∷ c ∷ d ∷ []) ⌝ }
+fn row4(name: u64, a: FrameValue, b: FrameValue, c: FrameValue, d: FrameValue) -> FrameRow
+    ensures { λ r. ⌜ r ≡ frameRowWith name (a ∷ b ∷ c ∷ d ∷ []) ⌝ }
 {
-    Row {
+    FrameRow {
         name,
         value0: a,
         value1: b,
@@ -102,73 +97,73 @@ fn row4(name: u64, a: FrameValue, b: FrameValue, c: FrameValue, d: FrameValue) -
     }
 }
 
-fn row3(name: u64, a: FrameValue, b: FrameValue, c: FrameValue) -> Row
-    ensures { λ r. ⌜ r ≡ rowWith name (a ∷ b ∷ c ∷ []) ⌝ }
+fn row3(name: u64, a: FrameValue, b: FrameValue, c: FrameValue) -> FrameRow
+    ensures { λ r. ⌜ r ≡ frameRowWith name (a ∷ b ∷ c ∷ []) ⌝ }
 {
     row4(name, a, b, c, nothing())
 }
 
-fn row2(name: u64, a: FrameValue, b: FrameValue) -> Row
-    ensures { λ r. ⌜ r ≡ rowWith name (a ∷ b ∷ []) ⌝ }
+fn row2(name: u64, a: FrameValue, b: FrameValue) -> FrameRow
+    ensures { λ r. ⌜ r ≡ frameRowWith name (a ∷ b ∷ []) ⌝ }
 {
     row3(name, a, b, nothing())
 }
 
-fn row1(name: u64, a: FrameValue) -> Row
-    ensures { λ r. ⌜ r ≡ rowWith name (a ∷ []) ⌝ }
+fn row1(name: u64, a: FrameValue) -> FrameRow
+    ensures { λ r. ⌜ r ≡ frameRowWith name (a ∷ []) ⌝ }
 {
     row2(name, a, nothing())
 }
 
-fn row0(name: u64) -> Row
-    ensures { λ r. ⌜ r ≡ rowWith name [] ⌝ }
+fn row0(name: u64) -> FrameRow
+    ensures { λ r. ⌜ r ≡ frameRowWith name [] ⌝ }
 {
     row1(name, nothing())
 }
 
 // Rows of numbers alone.
-fn numbers1(name: u64, a: u64) -> Row
-    ensures { λ r. ⌜ r ≡ rowOf (said name (num a ∷ [])) ⌝ }
+fn numbers1(name: u64, a: u64) -> FrameRow
+    ensures { λ r. ⌜ r ≡ frameRowOf (said name (num a ∷ [])) ⌝ }
 {
     row1(name, number(a))
 }
 
-fn numbers2(name: u64, a: u64, b: u64) -> Row
-    ensures { λ r. ⌜ r ≡ rowOf (said name (num a ∷ num b ∷ [])) ⌝ }
+fn numbers2(name: u64, a: u64, b: u64) -> FrameRow
+    ensures { λ r. ⌜ r ≡ frameRowOf (said name (num a ∷ num b ∷ [])) ⌝ }
 {
     row2(name, number(a), number(b))
 }
 
-fn numbers3(name: u64, a: u64, b: u64, c: u64) -> Row
-    ensures { λ r. ⌜ r ≡ rowOf (said name (num a ∷ num b ∷ num c ∷ [])) ⌝ }
+fn numbers3(name: u64, a: u64, b: u64, c: u64) -> FrameRow
+    ensures { λ r. ⌜ r ≡ frameRowOf (said name (num a ∷ num b ∷ num c ∷ [])) ⌝ }
 {
     row3(name, number(a), number(b), number(c))
 }
 
-fn numbers4(name: u64, a: u64, b: u64, c: u64, d: u64) -> Row
-    ensures { λ r. ⌜ r ≡ rowOf (said name (num a ∷ num b ∷ num c ∷ num d ∷ [])) ⌝ }
+fn numbers4(name: u64, a: u64, b: u64, c: u64, d: u64) -> FrameRow
+    ensures { λ r. ⌜ r ≡ frameRowOf (said name (num a ∷ num b ∷ num c ∷ num d ∷ [])) ⌝ }
 {
     row4(name, number(a), number(b), number(c), number(d))
 }
 
 // A number, and a place after it.
-fn number_part(name: u64, n: u64, p: Place) -> Row
-    ensures { λ r. ⌜ r ≡ rowOf (said name (num n ∷ place p ∷ [])) ⌝ }
+fn number_part(name: u64, n: u64, p: Place) -> FrameRow
+    ensures { λ r. ⌜ r ≡ frameRowOf (said name (num n ∷ place p ∷ [])) ⌝ }
 {
     row2(name, number(n), part(p))
 }
 
-fn ack_row(x: Ack) -> Row
-    ensures { λ r. ⌜ r ≡ rowOf (frameSaid (Frame.Ack x)) ⌝ }
+fn ack_row(x: Ack) -> FrameRow
+    ensures { λ r. ⌜ r ≡ frameRowOf (frameSaid (Frame.Ack x)) ⌝ }
 {
     let ecn = x.ecn;
     let largest = number(x.largest.0);
     let delay = number(x.delay);
     let blocks = part(x.additional);
     match ecn {
-        AckEcn::Nothing => row3(0x02, largest, delay, blocks),
-        AckEcn::Counts(counts) => Row {
-            name: 0x02,
+        AckEcn::Nothing => row3(FrameType::ACK.0, largest, delay, blocks),
+        AckEcn::Counts(counts) => FrameRow {
+            name: FrameType::ACK.0,
             value0: largest,
             value1: delay,
             value2: blocks,
@@ -179,11 +174,11 @@ fn ack_row(x: Ack) -> Row
     }
 }
 
-fn stream_row(x: Stream) -> Row
-    ensures { λ r. ⌜ r ≡ rowOf (frameSaid (Frame.Stream x)) ⌝ }
+fn stream_row(x: Stream) -> FrameRow
+    ensures { λ r. ⌜ r ≡ frameRowOf (frameSaid (Frame.Stream x)) ⌝ }
 {
-    Row {
-        name: 0x08,
+    FrameRow {
+        name: STREAM,
         value0: number(x.id.0),
         value1: number(x.offset),
         value2: number(bit(x.fin)),
@@ -193,11 +188,11 @@ fn stream_row(x: Stream) -> Row
     }
 }
 
-fn new_cid_row(x: NewConnectionId) -> Row
-    ensures { λ r. ⌜ r ≡ rowOf (frameSaid (Frame.NewConnectionId x)) ⌝ }
+fn new_cid_row(x: NewConnectionId) -> FrameRow
+    ensures { λ r. ⌜ r ≡ frameRowOf (frameSaid (Frame.NewConnectionId x)) ⌝ }
 {
     row4(
-        0x18,
+        FrameType::NEW_CONNECTION_ID.0,
         number(x.sequence),
         number(x.retire_prior_to),
         part(x.id),
@@ -205,51 +200,80 @@ fn new_cid_row(x: NewConnectionId) -> Row
     )
 }
 
-fn close_row(x: Close) -> Row
-    ensures { λ r. ⌜ r ≡ rowOf (closeSaid x) ⌝ }
+fn close_row(x: Close) -> FrameRow
+    ensures { λ r. ⌜ r ≡ frameRowOf (closeSaid x) ⌝ }
 {
     match x {
         Close::Connection(c) => {
             let ty = c.frame_type;
-            row3(0x1c, number(c.error_code), type_value(ty), part(c.reason))
+            row3(
+                FrameType::CONNECTION_CLOSE.0,
+                number(c.error_code),
+                type_value(ty),
+                part(c.reason),
+            )
         }
-        Close::Application(c) => number_part(0x1d, c.error_code, c.reason),
+        Close::Application(c) => number_part(
+            FrameType::APPLICATION_CLOSE.0,
+            c.error_code,
+            c.reason,
+        ),
     }
 }
 
 // A frame by its row.
-pub(crate) fn row_of(frame: Frame) -> Row
-    ensures { λ r. ⌜ r ≡ rowOf (frameSaid frame) ⌝ }
+pub(crate) fn row_of(frame: Frame) -> FrameRow
+    ensures { λ r. ⌜ r ≡ frameRowOf (frameSaid frame) ⌝ }
 {
     match frame {
-        Frame::Padding => row0(0x00),
-        Frame::Ping => row0(0x01),
+        Frame::Padding => row0(FrameType::PADDING.0),
+        Frame::Ping => row0(FrameType::PING.0),
         Frame::Ack(x) => ack_row(x),
-        Frame::ResetStream(x) => numbers3(0x04, x.id.0, x.error_code, x.final_offset),
-        Frame::StopSending(x) => numbers2(0x05, x.id.0, x.error_code),
-        Frame::Crypto(x) => number_part(0x06, x.offset, x.data),
-        Frame::NewToken(x) => row1(0x07, part(x.token)),
+        Frame::ResetStream(x) => numbers3(
+            FrameType::RESET_STREAM.0,
+            x.id.0,
+            x.error_code,
+            x.final_offset,
+        ),
+        Frame::StopSending(x) => numbers2(FrameType::STOP_SENDING.0, x.id.0, x.error_code),
+        Frame::Crypto(x) => number_part(FrameType::CRYPTO.0, x.offset, x.data),
+        Frame::NewToken(x) => row1(FrameType::NEW_TOKEN.0, part(x.token)),
         Frame::Stream(x) => stream_row(x),
-        Frame::MaxData(n) => numbers1(0x10, n),
-        Frame::MaxStreamData { id, offset } => numbers2(0x11, id.0, offset),
-        Frame::MaxStreams { dir, count } => numbers2(0x12, way(dir), count),
-        Frame::DataBlocked { offset } => numbers1(0x14, offset),
-        Frame::StreamDataBlocked { id, offset } => numbers2(0x15, id.0, offset),
-        Frame::StreamsBlocked { dir, limit } => numbers2(0x16, way(dir), limit),
+        Frame::MaxData(n) => numbers1(FrameType::MAX_DATA.0, n),
+        Frame::MaxStreamData { id, offset } => numbers2(FrameType::MAX_STREAM_DATA.0, id.0, offset),
+        Frame::MaxStreams { dir, count } => numbers2(
+            FrameType::MAX_STREAMS_BIDI.0,
+            dir.bit(),
+            count,
+        ),
+        Frame::DataBlocked { offset } => numbers1(FrameType::DATA_BLOCKED.0, offset),
+        Frame::StreamDataBlocked { id, offset } => numbers2(
+            FrameType::STREAM_DATA_BLOCKED.0,
+            id.0,
+            offset,
+        ),
+        Frame::StreamsBlocked { dir, limit } => numbers2(
+            FrameType::STREAMS_BLOCKED_BIDI.0,
+            dir.bit(),
+            limit,
+        ),
         Frame::NewConnectionId(x) => new_cid_row(x),
-        Frame::RetireConnectionId { sequence } => numbers1(0x19, sequence),
-        Frame::PathChallenge(n) => numbers1(0x1a, n),
-        Frame::PathResponse(n) => numbers1(0x1b, n),
+        Frame::RetireConnectionId { sequence } => numbers1(
+            FrameType::RETIRE_CONNECTION_ID.0,
+            sequence,
+        ),
+        Frame::PathChallenge(n) => numbers1(FrameType::PATH_CHALLENGE.0, n),
+        Frame::PathResponse(n) => numbers1(FrameType::PATH_RESPONSE.0, n),
         Frame::Close(x) => close_row(x),
-        Frame::Datagram(x) => number_part(0x30, bit(x.len), x.data),
+        Frame::Datagram(x) => number_part(DATAGRAM, bit(x.len), x.data),
         Frame::AckFrequency(x) => numbers4(
-            0xaf,
+            FrameType::ACK_FREQUENCY.0,
             x.sequence,
             x.ack_eliciting_threshold,
             x.request_max_ack_delay,
             x.reordering_threshold,
         ),
-        Frame::ImmediateAck => row0(0x1f),
-        Frame::HandshakeDone => row0(0x1e),
+        Frame::ImmediateAck => row0(FrameType::IMMEDIATE_ACK.0),
+        Frame::HandshakeDone => row0(FrameType::HANDSHAKE_DONE.0),
     }
 }

@@ -36,6 +36,8 @@ use Rattle.shared.proofs.kinds.Side.is_server as is-server
 use Rattle.shared.proofs.kinds.Side.is_server.Reads as is-server-reads
 use Rattle.shared.proofs.kinds.Side.not as not
 use Rattle.shared.proofs.kinds.Side.not.Reads as not-reads
+use Rattle.shared.proofs.kinds.Dir.bit as bit
+use Rattle.shared.proofs.kinds.Dir.bit.Reads as bit-reads
 use Rattle.shared.proofs.kinds.StreamId.new as stream-new
 use Rattle.shared.proofs.kinds.StreamId.new.Reads as stream-new-reads
 use Rattle.shared.proofs.kinds.StreamId.initiator as initiator
@@ -106,6 +108,10 @@ is-server-once κs a x y s t p q = p ∙ sym q
 not-once : Once not.ended not-reads.Post (λ κs x s. x)
 unfolding Once
 not-once κs a x y s t p q = side-one x y _ p q
+
+bit-once : Once bit.ended bit-reads.Post (λ κs x s. x)
+unfolding Once
+bit-once κs a x y s t p q = p .0 ∙ sym (q .0)
 
 stream-new-once : Once stream-new.ended stream-new-reads.Post (λ κs x s. x)
 unfolding Once

@@ -81,7 +81,8 @@ impl Side {
 }
 
 impl Dir {
-    fn bit(self) -> u64
+    // 0 both ways, 1 one way.
+    pub fn bit(self) -> u64
         ensures { λ r. ⌜ (r ≡ dirBit self) × (r ≤ 1) ⌝ }
     {
         match self {

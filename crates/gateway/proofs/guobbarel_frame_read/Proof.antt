@@ -1,7 +1,7 @@
 use mathlib.Core.Path.{sym, _∙_}
 use native.Mathlib.Omega.{arith}
 use borrow.Author.Needs.{needs}
-use Rattle.gateway_frame.proofs.Runs.{stands, padding-read}
+use Rattle.gateway_frame.proofs.PaddingRead.{stands, padding-read}
 use Rattle.gateway.proofs.guobbarel_frame_read.Statement.{statement}
 use Rattle.gateway.proofs.guobbarel_frame_read.Tie as tie
 

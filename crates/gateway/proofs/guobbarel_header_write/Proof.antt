@@ -1,5 +1,5 @@
 use denote.Ref.{now}
-use Rattle.gateway.proofs.Puts.{puts-no, puts-said, for-no, for-ok}
+use Rattle.gateway.proofs.HeaderWrites.{puts-no, puts-said, for-no, for-ok}
 use mathlib.Core.Path.{sym, _∙_}
 use borrow.Author.Needs.{needs}
 use Rattle.gateway.proofs.guobbarel_header_write.Statement.{statement}

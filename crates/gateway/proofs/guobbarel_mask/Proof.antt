@@ -1,5 +1,5 @@
 use Rattle.protect.specs.Said.{maskedOf}
-use Rattle.gateway.proofs.Exports.{mask-no, mask-flag, mask-mask, mask-ok, mask-on}
+use Rattle.gateway.proofs.MaskCases.{mask-no, mask-flag, mask-mask, mask-ok, mask-on}
 use borrow.Author.Needs.{needs}
 use Rattle.gateway.proofs.guobbarel_mask.Statement.{statement}
 use Rattle.gateway.proofs.guobbarel_mask.Tie as tie

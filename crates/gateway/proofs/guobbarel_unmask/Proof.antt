@@ -1,4 +1,4 @@
-use Rattle.gateway.proofs.Exports.{unmask-no, unmask-kind, unmask-mask, unmask-ok, unmask-on}
+use Rattle.gateway.proofs.MaskCases.{unmask-no, unmask-kind, unmask-mask, unmask-ok, unmask-on}
 use borrow.Author.Needs.{needs}
 use Rattle.gateway.proofs.guobbarel_unmask.Statement.{statement}
 use Rattle.gateway.proofs.guobbarel_unmask.Tie as tie

@@ -1,4 +1,4 @@
-use Rattle.gateway.proofs.Exports.{five-all}
+use Rattle.gateway.proofs.MaskCases.{five-all}
 use borrow.Author.Needs.{needs}
 use Rattle.gateway.proofs.packets.five.Statement.{statement}
 use Rattle.gateway.proofs.packets.five.Tie as tie

@@ -1,4 +1,4 @@
--- The cases of unmask and mask over the surface, each from the tests that lead to it. Assumes nothing.
+-- The cases of unmask and mask over the surface, each from the tests that lead to it.
 use Prim.Native.Nat.{ℕ, _≤_, _<_}
 use mathlib.Core.Path.{_≡_, refl, sym, ap, _∙_}
 use mathlib.Core.List.{List, [], _∷_}
@@ -9,7 +9,7 @@ use borrow.Author.Tests.{lt-ltb, le-ltb, eq-eqb, ne-eqb}
 use Rattle.coding.specs.Words.{if_then_else_, Answer, no}
 use Rattle.protect.specs.Steps.{leftBy, readOff, Changed, Opened, finishAt, finished, done, maskAt}
 use Rattle.gateway.specs.Arguments.{longKind, numberedKind, numberGiven}
-use Rattle.gateway.specs.Packets.{notOpened, unmaskRecord, inMask, unmaskAt, Unmasks, maskRecord, maskFor, Masks}
+use Rattle.gateway.specs.Packets.{notOpened, unmaskRecord, inMask, unmaskAt, UnmasksPacket, maskRecord, maskFor, MasksPacket}
 use Rattle.gateway.specs.declared.records.UnmaskAnswer.{UnmaskAnswer}
 
 -- five bytes, one by one, are a list of five
@@ -38,12 +38,12 @@ module _ (kind : ℕ) (s : List ℕ) (at : ℕ) (mask : List ℕ) where
     unfolding unmaskAt inMask if_then_else_
     unmask-ok k = rw (le-ltb 5 kind h, eq-eqb (length mask) 5 k)
 
-  pub unmask-no : {k : ℕ} → unmaskAt kind s at mask ≡ no k → Unmasks kind s at mask (notOpened k) s
+  pub unmask-no : {k : ℕ} → unmaskAt kind s at mask ≡ no k → UnmasksPacket kind s at mask (notOpened k) s
   unfolding readOff leftBy
   unmask-no e = record { says = rw e; leaves = rw e }
 
   pub unmask-on : {w : Answer (List ℕ)} {said : Answer Opened} {new : List ℕ} {r : UnmaskAnswer} → unmaskAt kind s at mask ≡ w
-      → Changed (finished (numberedKind kind) (longKind kind) at) w s said new → r ≡ unmaskRecord at (length s) said → Unmasks kind s at mask r new
+      → Changed (finished (numberedKind kind) (longKind kind) at) w s said new → r ≡ unmaskRecord at (length s) said → UnmasksPacket kind s at mask r new
   unmask-on e f q =
       record {
         says = q ∙ ap (unmaskRecord at (length s)) (f .says ∙ ap (readOff (finished (numberedKind kind) (longKind kind) at)) (sym e));
@@ -66,12 +66,12 @@ module _ (headerLen numberLen hasLength : ℕ) (s mask : List ℕ) where
     unfolding maskFor inMask if_then_else_
     mask-ok k = rw (le-ltb 1 hasLength h, eq-eqb (length mask) 5 k)
 
-  pub mask-no : {k : ℕ} → maskFor headerLen numberLen hasLength s mask ≡ no k → Masks headerLen numberLen hasLength s mask k s
+  pub mask-no : {k : ℕ} → maskFor headerLen numberLen hasLength s mask ≡ no k → MasksPacket headerLen numberLen hasLength s mask k s
   unfolding readOff leftBy
   mask-no e = record { says = rw e; leaves = rw e }
 
   pub mask-on : {w : Answer (List ℕ)} {said : Answer (Unit {0})} {new : List ℕ} {r : ℕ} → maskFor headerLen numberLen hasLength s mask ≡ w
-      → Changed done w s said new → r ≡ maskRecord said → Masks headerLen numberLen hasLength s mask r new
+      → Changed done w s said new → r ≡ maskRecord said → MasksPacket headerLen numberLen hasLength s mask r new
   mask-on e f q =
       record {
         says = q ∙ ap maskRecord (f .says ∙ ap (readOff done) (sym e));

@@ -1,4 +1,4 @@
--- Where PADDING stands by its byte alone, the step of the walk reads it. Assumes nothing.
+-- Where PADDING stands by its byte alone, the step of the walk reads it.
 use mathlib.Core.Path.{_≡_, refl}
 use mathlib.Core.List.{List}
 use mathlib.Core.Bool.{Bool, true, false}
