@@ -14,7 +14,7 @@ use Rattle.coding.specs.Places.{partOf}
 use Rattle.coding.proofs.Laws.{part-in}
 use Rattle.coding.proofs.Shift.{further, var-behind}
 use Rattle.ack.specs.Scan.{scanAt, rangesAt}
-use Rattle.ack.specs.Step.{Step, range, end, refused, Taken, refuse, ackStep, goOn, stepping}
+use Rattle.ack.specs.Step.{Step, range, end, refused, Taken, unmoved, ackStep, goOn, stepping}
 use Rattle.ack.proofs.Laws.{Inside, scan-inside}
 use Rattle.ack.proofs.Ranges as stepped
 use Rattle.ack.proofs.Ranges.{part-length}
@@ -57,7 +57,7 @@ module _ (s : List ℕ) (k : ℕ) where
     few = rw size (omega arith)
 
     step-behind : (i largest : ℕ) → ackStep s (k + i) largest ≡ later k (ackStep (drop k s) i largest)
-    unfolding ackStep refuse
+    unfolding ackStep unmoved
     step-behind i largest =
         if-later k _ _ _ _ _ _ (le-ltb _ _ short ∙ sym (le-ltb _ _ few)) refl
         (if-later k _ _ _ _ _ _ refl refl

@@ -16,9 +16,9 @@ use Rattle.shared.specs.Cid.{cidOf}
 use Rattle.shared.specs.declared.cid.ConnectionId.{ConnectionId}
 use Rattle.frame.specs.Table.{flag}
 use Rattle.packet.specs.TypeBits.{typeOf}
-use Rattle.packet.specs.Header.{Header, initial, zeroRtt, handshake, retry, short, negotiate, Outcome, refuse, headerAt, lengthIn}
+use Rattle.packet.specs.Header.{Header, initial, zeroRtt, handshake, retry, short, negotiate, Outcome, refusedHeader, headerAt, lengthIn}
 use Rattle.packet.specs.Split.{Split, cutAt, noPacket, splitBy, splitOn, splitAt}
-use Rattle.packet.specs.Walk.{ended, packet, Step, metOn, stepOn, stopAt, stepAt}
+use Rattle.packet.specs.Walk.{atEnd, packet, PacketStep, metOn, stepOn, stopAt, packetStepAt}
 use Rattle.packet.proofs.Splits.{split-taken}
 use Rattle.gateway_frame.specs.Spans.{spanAt}
 use Rattle.gateway.specs.Packets.{splitRecord, stepRecord}
@@ -76,7 +76,7 @@ flag-small true = refl
 flag-small false = refl
 
 -- a split's header is the one that was read, or refusal 7
-split-header : (P : Outcome → Type 0) (s : List ℕ) (local : ℕ) (versions : List ℕ) (grease : Bool) → P (headerAt s local versions grease) → P (refuse 7)
+split-header : (P : Outcome → Type 0) (s : List ℕ) (local : ℕ) (versions : List ℕ) (grease : Bool) → P (headerAt s local versions grease) → P (refusedHeader 7)
     → P (splitAt s local versions grease .header)
 unfolding splitAt splitOn splitBy cutAt noPacket
 split-header P s local versions grease p q = on (headerAt s local versions grease .said)
@@ -107,16 +107,16 @@ module _ (s : List ℕ) (at : ℕ) where
       → walkStepBack s (stepRecord at (record { met = metOn (o .said) at len; header = o })) ≡ record { met = metOn (o .said) at len; header = o }
   outcome-back len o h = on-back len (o .dst) (o .src) (o .version) (o .end) (o .said) h
 
-  abbrev Back : Step → Type 0
+  abbrev Back : PacketStep → Type 0
   Back x = walkStepBack s (stepRecord at x) ≡ x
 
   stop-back : (k : ℕ) → (k ≡ 0 → ⊥) → (k ≡ 4 → ⊥) → Back (stopAt at k)
-  unfolding stopAt metOn refuse
-  stop-back k z f = outcome-back 0 (refuse k) (refuse-stands (drop at s) k z f)
+  unfolding stopAt metOn refusedHeader
+  stop-back k z f = outcome-back 0 (refusedHeader k) (refuse-stands (drop at s) k z f)
 
-  end-back : Back (record { met = ended; header = refuse 1 })
-  unfolding refuse if_then_else_
-  end-back i = record { met = ended; header = both (drop at s) at 0 (cidOf []) (cidOf []) 0 0 (no 1) (none-back (drop at s)) (none-back (drop at s)) i }
+  end-back : Back (record { met = atEnd; header = refusedHeader 1 })
+  unfolding refusedHeader if_then_else_
+  end-back i = record { met = atEnd; header = both (drop at s) at 0 (cidOf []) (cidOf []) 0 0 (no 1) (none-back (drop at s)) (none-back (drop at s)) i }
 
   module _ (local : ℕ) (versions : List ℕ) (grease : Bool) where
     split-stands : Stands (drop at s) (splitAt (drop at s) local versions grease .header)
@@ -124,8 +124,8 @@ module _ (s : List ℕ) (at : ℕ) where
         split-header (Stands (drop at s)) (drop at s) local versions grease (header-stands (drop at s) typeOf local versions grease)
         (refuse-stands (drop at s) 7 (λ z. omega (arith, z)) (λ z. omega (arith, z)))
 
-    step-back : walkStepBack s (stepRecord at (stepAt s at local versions grease)) ≡ stepAt s at local versions grease
-    unfolding stepAt stepOn
+    step-back : walkStepBack s (stepRecord at (packetStepAt s at local versions grease)) ≡ packetStepAt s at local versions grease
+    unfolding packetStepAt stepOn
     step-back =
         if-all Back _ _ _ (λ b. stop-back 14 (λ z. omega (arith, z)) (λ z. omega (arith, z))) (λ b.
         if-all Back _ _ _ (λ c. stop-back 1 (λ z. omega (arith, z)) (λ z. omega (arith, z))) (λ c.
@@ -149,11 +149,11 @@ module _ (s : List ℕ) (at len : ℕ) (dst src : ConnectionId) (version end : �
   header-holds (negotiate bits) h = record { packet = p; to = omega (arith, h); from = omega (arith, h); token = omega arith; number = q }
 
 module _ (s : List ℕ) (at local : ℕ) (versions : List ℕ) (grease : Bool) where
-  abbrev Inside : Step → Type 0
+  abbrev Inside : PacketStep → Type 0
   Inside x = stepRecord at x .kind < 6 → Holds s (stepRecord at x)
 
   stop-inside : (k : ℕ) → Inside (stopAt at k)
-  unfolding stopAt refuse
+  unfolding stopAt refusedHeader
   stop-inside k h = absurd (omega (arith, h))
 
   on-inside : (len : ℕ) (dst src : ConnectionId) (version end : ℕ) (a : Answer Header) → Stand (drop at s) a (saying (drop at s) at len dst src version end a)
@@ -170,8 +170,8 @@ module _ (s : List ℕ) (at local : ℕ) (versions : List ℕ) (grease : Bool) w
       let t = split-taken (drop at s) local versions grease x e in
       (omega (arith, l, t .inside, length-drop at s), t .past))
 
-  step-inside : Inside (stepAt s at local versions grease)
-  unfolding stepAt
+  step-inside : Inside (packetStepAt s at local versions grease)
+  unfolding packetStepAt
   step-inside =
       if-all Inside _ _ _ (λ b. stop-inside 14) (λ b.
       if-all Inside _ _ _ (λ c. stop-inside 1) (λ c.

@@ -19,7 +19,7 @@ use Rattle.shared.specs.declared.cid.ConnectionId.{ConnectionId}
 use Rattle.shared.proofs.Laws.{long-inside}
 use Rattle.packet.specs.TypeBits.{PacketType}
 use Rattle.packet.specs.TypeBits as type
-use Rattle.packet.specs.Header.{Header, initial, zeroRtt, handshake, retry, short, negotiate, Outcome, refuse, headed, initialAt, lengthAt, tailAt, bodyAt, longAt, shortAt, firstAt, outside, headerBy}
+use Rattle.packet.specs.Header.{Header, initial, zeroRtt, handshake, retry, short, negotiate, Outcome, refusedHeader, headed, initialAt, lengthAt, tailAt, bodyAt, longAt, shortAt, firstAt, outside, headerBy}
 
 abbrev placed : ℕ → ℕ → Place
 placed start len = record { start = start; len = len }
@@ -62,8 +62,8 @@ module _ (s : List ℕ) where
   abbrev pub Stands : Outcome → Type 0
   Stands o = Stand (o .said) o
 
-  pub refuse-stands : (k : ℕ) → (k ≡ 0 → ⊥) → (k ≡ 4 → ⊥) → Stands (refuse k)
-  unfolding refuse
+  pub refuse-stands : (k : ℕ) → (k ≡ 0 → ⊥) → (k ≡ 4 → ⊥) → Stands (refusedHeader k)
+  unfolding refusedHeader
   refuse-stands k z f = (z, (λ e. absurd (f e), λ _. record { to = refl; from = refl }))
 
   module _ (dst src : ConnectionId) (v at : ℕ)

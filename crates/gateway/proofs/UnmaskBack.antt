@@ -14,7 +14,7 @@ use Rattle.coding.specs.Reading.{fixedAt}
 use Rattle.coding.specs.declared.Place.{Place}
 use Rattle.coding.proofs.Rules.{if-all, then-all}
 use Rattle.packet.specs.Header.{initial, zeroRtt, handshake, retry, short, negotiate, kindOf, isLong, spaceIn}
-use Rattle.protect.specs.Protection.{numberLen}
+use Rattle.number.specs.Cutting.{tagLength}
 use Rattle.protect.specs.Tests.{inSize}
 use Rattle.protect.specs.Steps.{readOff, sampleAt, openedBy, openAt, finishAt, finished, headerPlace, payloadPlace}
 use Rattle.protect.specs.Steps as opened
@@ -99,7 +99,7 @@ module _ (isLong : Bool) (s : List ℕ) (at : ℕ) (mask : List ℕ) where
   unfolding finishAt if_then_else_
   bare-refuses = size-refuses (ok s) tt
 
-few : (first : ℕ) → numberLen first ≤ 4
+few : (first : ℕ) → tagLength first ≤ 4
 few first = omega arith
 
 module _ (at len : ℕ) where
@@ -138,10 +138,10 @@ module _ (s : List ℕ) (at : ℕ) (mask : List ℕ) where
   finish-back false isLong (no k) f g = record { says = no-back at (length s) false isLong k (g refl); header = λ e z. absurd (g refl z); payload = λ e z. absurd (g refl z) }
   finish-back true isLong (no k) f g = record { says = no-back at (length s) true isLong k (f refl); header = λ e z. absurd (f refl z); payload = λ e z. absurd (f refl z) }
   finish-back true true (ok new) f g =
-      let r : leb (at + numberLen (byteAt new 0)) (length s) ≡ true = le-leb (at + numberLen (byteAt new 0)) (length s) (omega (arith, f refl, few (byteAt new 0))) in
+      let r : leb (at + tagLength (byteAt new 0)) (length s) ≡ true = le-leb (at + tagLength (byteAt new 0)) (length s) (omega (arith, f refl, few (byteAt new 0))) in
       record { says = long-back at (length s) _ _ _; header = λ e z. rw r; payload = λ e z. rw r }
   finish-back true false (ok new) f g =
-      let r : leb (at + numberLen (byteAt new 0)) (length s) ≡ true = le-leb (at + numberLen (byteAt new 0)) (length s) (omega (arith, f refl, few (byteAt new 0))) in
+      let r : leb (at + tagLength (byteAt new 0)) (length s) ≡ true = le-leb (at + tagLength (byteAt new 0)) (length s) (omega (arith, f refl, few (byteAt new 0))) in
       record { says = short-back at (length s) _ _ _ _; header = λ e z. rw r; payload = λ e z. rw r }
 
 pub unmask-back : UnmaskGivesBack

@@ -21,18 +21,18 @@ use Rattle.shared.specs.declared.kinds.CutNumber.{CutNumber}
 use Rattle.number.specs.Cutting.{cut}
 use Rattle.packet.specs.Header.{Outcome, outside, headed, headerAt}
 use Rattle.packet.specs.Split.{cutAt}
-use Rattle.packet.specs.Walk.{packet, Step, metOn, stepOn, stepAt}
+use Rattle.packet.specs.Walk.{packet, PacketStep, metOn, stepOn, packetStepAt}
 use Rattle.packet.specs.TypeBits.{typeOf, bitsOf}
 use Rattle.packet.proofs.Types.{table}
-use Rattle.packet_out.specs.Encoding.{Plain, initial, numberIn, numberLenIn, shapeBy, lengthBytes, numberField, headerBy, placeholder, partialOf}
+use Rattle.packet_out.specs.Encoding.{Plain, initial, plainNumber, numberLenIn, shapeBy, lengthBytes, numberField, writtenHeader, placeholder, partialOf}
 use Rattle.packet_out.specs.Length.{lengthField}
 use Rattle.packet_out.specs.Back.{kindRead, versionRead, srcRead, tokenPlace, endRead, readAs, Readable, Typed}
 use Rattle.packet_out.specs.Before.{numberSize, fits, headerWith}
 use Rattle.packet_out.proofs.Laws.{kept, length-shape, length-some, length-small}
-use Rattle.packet_out.proofs.Back.{header-back}
-use Rattle.packet_out.proofs.Again.{reads-length, first-steers, header-then, token-back}
-use Rattle.packet_out.proofs.Sent.{length-field, length-header}
-use Rattle.packet_out.proofs.Way.{split-whole}
+use Rattle.packet_out.proofs.HeaderBack.{header-back}
+use Rattle.packet_out.proofs.EncodedBack.{reads-length, first-steers, header-then, token-back}
+use Rattle.packet_out.proofs.LengthAndMask.{length-field, length-header}
+use Rattle.packet_out.proofs.WholeWay.{split-whole}
 use Rattle.gateway.specs.Headers.{plainFor, PutsHeader}
 use Rattle.gateway.specs.Headers as headers
 use Rattle.gateway.specs.declared.records.HeaderAnswer.{HeaderAnswer}
@@ -61,15 +61,15 @@ module _ (p : Plain) (dst src : ConnectionId) (token payload : List ℕ) (local 
   counted = numberSize p + length payload
 
   abbrev pub header : List ℕ
-  header = headerBy bitsOf (lengthField counted) p dst src token
+  header = writtenHeader bitsOf (lengthField counted) p dst src token
 
   pub read : Outcome
   read = readAs p dst src token counted 2
 
   header-long : length header ≡ endRead p dst src token 2 + numberSize p
-  unfolding endRead headerBy
+  unfolding endRead writtenHeader
   header-long =
-      omega (arith, length-shape (lengthField counted) (shapeBy bitsOf p) (numberIn p) dst src token, length-some (numberIn p), length-set (shapeBy bitsOf p .hasLength) counted)
+      omega (arith, length-shape (lengthField counted) (shapeBy bitsOf p) (plainNumber p) dst src token, length-some (plainNumber p), length-set (shapeBy bitsOf p .hasLength) counted)
 
   all : length (header ++ payload) ≡ length header + length payload
   all = length-append header payload
@@ -84,18 +84,18 @@ module _ (p : Plain) (dst src : ConnectionId) (token payload : List ℕ) (local 
   header-read : headerAt (header ++ payload) local versions grease ≡ read
   unfolding read
   header-read =
-      let k = kept (numberIn p) dst src (f .rules) in
+      let k = kept (plainNumber p) dst src (f .rules) in
       let e = header-then bitsOf (lengthField counted) p dst src token payload in
       rw e
-      (header-back typeOf bitsOf (table .back) (table .two) dst src token (lengthField counted) counted 2 (numberField (numberIn p) ++ payload) local versions grease p
+      (header-back typeOf bitsOf (table .back) (table .two) dst src token (lengthField counted) counted 2 (numberField (plainNumber p) ++ payload) local versions grease p
       (shapeBy bitsOf p .first) (first-steers bitsOf p (k .cut)) (λ h. reads-length counted (length-small (shapeBy bitsOf p .hasLength) counted h (f .len))) (λ h. omega (arith, few)) k y d (rw e at inside))
 
   one : 1 ≤ endRead p dst src token 2
   unfolding endRead
   one = omega arith
 
-  steps : stepAt (header ++ payload) 0 local versions grease ≡ record { met = packet 0 (length (header ++ payload)); header = read }
-  unfolding stepAt stepOn cutAt metOn if_then_else_ read readAs headed
+  steps : packetStepAt (header ++ payload) 0 local versions grease ≡ record { met = packet 0 (length (header ++ payload)); header = read }
+  unfolding packetStepAt stepOn cutAt metOn if_then_else_ read readAs headed
   steps =
       let s = split-whole p dst src token (header ++ payload) counted 2 local versions grease header-read (λ h. omega (arith, all, header-long)) in
       rw (inside, ne-eqb (length (header ++ payload)) 0 (λ e. omega (arith, e, all, header-long, one)), lt-leb (length (header ++ payload)) 0 (omega (arith, all, header-long, one)), s)
@@ -114,15 +114,15 @@ module _ (p : Plain) (dst src : ConnectionId) (token payload : List ℕ) (local 
   pub to-back : named (header ++ payload) (answer .«dst_cid») ≡ cidBytes dst
   unfolding read readAs headed
   to-back =
-      sym (cid-same (named (header ++ payload) (answer .«dst_cid»))) ∙ ap (λ (x : Step). cidBytes (x .header .dst)) back ∙ cid-same (cidBytes dst)
+      sym (cid-same (named (header ++ payload) (answer .«dst_cid»))) ∙ ap (λ (x : PacketStep). cidBytes (x .header .dst)) back ∙ cid-same (cidBytes dst)
 
   pub from-back : named (header ++ payload) (answer .«src_cid») ≡ srcRead p src
   unfolding read readAs headed
   from-back =
-      sym (cid-same (named (header ++ payload) (answer .«src_cid»))) ∙ ap (λ (x : Step). cidBytes (x .header .src)) back ∙ cid-same (srcRead p src)
+      sym (cid-same (named (header ++ payload) (answer .«src_cid»))) ∙ ap (λ (x : PacketStep). cidBytes (x .header .src)) back ∙ cid-same (srcRead p src)
 
   pub token-there : shapeBy bitsOf p .hasToken ≡ true → partOf (header ++ payload) (tokenPlace p dst src token) ≡ token
-  token-there h = rw (header-then bitsOf (lengthField counted) p dst src token payload) (token-back p dst src (shapeBy bitsOf p .first) token (lengthField counted) (numberField (numberIn p) ++ payload) h)
+  token-there h = rw (header-then bitsOf (lengthField counted) p dst src token payload) (token-back p dst src (shapeBy bitsOf p .first) token (lengthField counted) (numberField (plainNumber p) ++ payload) h)
 
   pub number-there : answer .«number_offset» + numberSize p ≡ length header
   unfolding read readAs headed
@@ -146,7 +146,7 @@ module _ (dst src token payload : List ℕ) (local : ℕ) (versions : List ℕ) 
     pub fit : Fit p (cidOf dst) (cidOf src) token (length payload)
     pub typed : Typed p (cidOf dst) (cidOf src)
     pub readable : Readable p (cidOf dst) local versions grease
-    pub long : w .«header_len» ≡ length (headerBy bitsOf (lengthField (numberSize p + length payload)) p (cidOf dst) (cidOf src) token)
+    pub long : w .«header_len» ≡ length (writtenHeader bitsOf (lengthField (numberSize p + length payload)) p (cidOf dst) (cidOf src) token)
     pub number : w .«number_len» ≡ numberSize p
 
   module _ (p : Plain) (y : Ready p) where
@@ -154,7 +154,7 @@ module _ (dst src token payload : List ℕ) (local : ℕ) (versions : List ℕ) 
     said = answer p (cidOf dst) (cidOf src) token payload local versions grease (y .fit) few (y .typed) (y .readable) a b
 
     abbrev sent : List ℕ
-    sent = headerBy bitsOf (lengthField (numberSize p + length payload)) p (cidOf dst) (cidOf src) token ++ payload
+    sent = writtenHeader bitsOf (lengthField (numberSize p + length payload)) p (cidOf dst) (cidOf src) token ++ payload
 
     make : (h : HeaderGiven) → said .refusal ≡ 0 → said .kind ≡ h .kind → ((h .kind ≡ 4 → ⊥) → srcRead p (cidOf src) ≡ src)
         → (h .kind < 4 → said .version ≡ h .version) → (h .kind ≡ 0 → named sent (said .token) ≡ token)
@@ -164,7 +164,7 @@ module _ (dst src token payload : List ℕ) (local : ℕ) (versions : List ℕ) 
         record {
           refusal = refusal;
           kind = kind;
-          packet = ap (spanAt 0) (length-append (headerBy bitsOf (lengthField (numberSize p + length payload)) p (cidOf dst) (cidOf src) token) payload ∙ ap (λ (n : ℕ). n + length payload) (sym (y .long)));
+          packet = ap (spanAt 0) (length-append (writtenHeader bitsOf (lengthField (numberSize p + length payload)) p (cidOf dst) (cidOf src) token) payload ∙ ap (λ (n : ℕ). n + length payload) (sym (y .long)));
           number = rw (y .long, y .number) (number-there p (cidOf dst) (cidOf src) token payload local versions grease (y .fit) few (y .typed) (y .readable) a b);
           to = to-back p (cidOf dst) (cidOf src) token payload local versions grease (y .fit) few (y .typed) (y .readable) a b ∙ cid-same dst;
           from = λ e. from-back p (cidOf dst) (cidOf src) token payload local versions grease (y .fit) few (y .typed) (y .readable) a b ∙ from e;
@@ -181,7 +181,7 @@ module _ (dst src token payload : List ℕ) (local : ℕ) (versions : List ℕ) 
     given k = record { kind = k; spin = spin; «key_phase» = phase; random = random; version = version; «number_value» = value; «number_len» = len }
 
     by-kind : (k : ℕ) → k ≤ 5 → (y : Ready (plainFor (given k))) → ReadBack (given k) dst src token (length payload) w (sent (plainFor (given k)) y) (said (plainFor (given k)) y)
-    unfolding if_then_else_ read readAs headed kindRead versionRead srcRead numberIn numberLenIn numberedKind
+    unfolding if_then_else_ read readAs headed kindRead versionRead srcRead plainNumber numberLenIn numberedKind
     by-kind zero l y = make _ y (given 0) refl refl (λ _. cid-same src) (λ _. refl) (λ _. token-there _ _ _ token payload local versions grease (y .fit) few (y .typed) (y .readable) a b (has-token _ version)) (λ _. refl) (λ _. refl) (λ e. absurd (omega (arith, e))) (λ e. absurd (omega (arith, e)))
     by-kind (suc zero) l y = make _ y (given 1) refl refl (λ _. cid-same src) (λ _. refl) (λ e. absurd (omega (arith, e))) (λ _. refl) (λ _. refl) (λ e. absurd (omega (arith, e))) (λ e. absurd (omega (arith, e)))
     by-kind (suc (suc zero)) l y = make _ y (given 2) refl refl (λ _. cid-same src) (λ _. refl) (λ e. absurd (omega (arith, e))) (λ _. refl) (λ _. refl) (λ e. absurd (omega (arith, e))) (λ e. absurd (omega (arith, e)))
@@ -195,9 +195,9 @@ module _ (dst src token payload : List ℕ) (local : ℕ) (versions : List ℕ) 
 -- what is known where it answers refusal 0
 record Sent (p : Plain) (dst src : ConnectionId) (token : List ℕ) (n : ℕ) (w : HeaderAnswer) (new : List ℕ) : Type 0 where
   fitting : fits p dst src token n ≡ true
-  long : w .«header_len» ≡ length (headerBy bitsOf (lengthField (numberSize p + n)) p dst src token)
+  long : w .«header_len» ≡ length (writtenHeader bitsOf (lengthField (numberSize p + n)) p dst src token)
   number : w .«number_len» ≡ numberSize p
-  bytes : take (w .«header_len») new ≡ headerBy bitsOf (lengthField (numberSize p + n)) p dst src token
+  bytes : take (w .«header_len») new ≡ writtenHeader bitsOf (lengthField (numberSize p + n)) p dst src token
 
 module _ (p : Plain) (dst src : ConnectionId) (token : List ℕ) (n : ℕ) (old : List ℕ) (w : HeaderAnswer) (new : List ℕ) (z : w .refusal ≡ 0) where
   put-no : (k : ℕ) → (k ≡ 0 → ⊥) → PutsHeader p (no k) old w new → ⊥

@@ -15,7 +15,7 @@ use Rattle.shared.specs.Cid.{cidOf}
 use Rattle.number.specs.Cutting.{cut}
 use Rattle.number.specs.Ends.{Call, Packet, sendBy, acknowledgeBy, readBy, acceptBy}
 use Rattle.packet.specs.Header.{Header, initial, zeroRtt, handshake, retry, short, negotiate, Outcome, kindOf, isLong, spaceIn}
-use Rattle.packet.specs.Walk.{Met, ended, packet, stopped, Step, stepAt}
+use Rattle.packet.specs.Walk.{Met, atEnd, packet, refusedAt, PacketStep, packetStepAt}
 use Rattle.protect.specs.Steps.{readOff, sampleAt, Opened, finishAt, finished, headerPlace, payloadPlace}
 use Rattle.protect.specs.Steps as opened
 use Rattle.packet_out.specs.Back.{Readable}
@@ -65,17 +65,17 @@ outcomeBack s r =
 abbrev pub metBack : SplitAnswer → Met
 metBack r =
     if not (eqb (r .kind) 6) then packet (r .packet .start) (r .packet .len) else
-    if eqb (r .refusal) 0 then ended else
-    stopped (r .packet .start)
+    if eqb (r .refusal) 0 then atEnd else
+    refusedAt (r .packet .start)
 
-abbrev pub walkStepBack : List ℕ → SplitAnswer → Step
+abbrev pub walkStepBack : List ℕ → SplitAnswer → PacketStep
 walkStepBack s r = record { met = metBack r; header = outcomeBack (drop (r .packet .start) s) r }
 
 -- for every datagram and all arguments: what the step met, and the whole of what decode read, a refusal too
 abbrev pub SplitGivesBack : Type 0
 SplitGivesBack =
     (s : List ℕ) (at local : ℕ) (versions : List ℕ) (grease : Bool)
-    → walkStepBack s (splitFor s at local versions (flag grease)) ≡ stepAt s at local versions grease
+    → walkStepBack s (splitFor s at local versions (flag grease)) ≡ packetStepAt s at local versions grease
 
 -- a packet lies in its datagram, and what its record names lies in the packet, before its number
 pub record Holds (s : List ℕ) (r : SplitAnswer) : Type 0 where

@@ -14,9 +14,9 @@ use Rattle.coding.specs.Varint.{varAt}
 use Rattle.coding.specs.declared.Place.{Place}
 use Rattle.coding.proofs.Rules.{if-all, then-all}
 use Rattle.ack.specs.Scan.{rounds, scanAt}
-use Rattle.frame.specs.Format.{Value, num, place, none, Said, said, Field, var, orNone, atMost, bytes, rest, fixed, num64, cid, ackBlocks, const, lastButOne, inOrder, Read, done, refuse, thenRead, bytesAt, restAt, cidAt, upTo, blocksAt, fieldAt, fieldsAt, bit}
-use Rattle.frame.specs.Table.{Row, look, has, readRow, bodyAt, table, Outcome, taken, refused, outcome, frameAt, ackFields}
-use Rattle.frame.specs.Walk.{Step, frame, end, stepAt}
+use Rattle.frame.specs.Format.{Value, num, place, none, Said, said, Field, var, orNone, atMost, bytes, rest, fixed, num64, cid, ackBlocks, const, lastButOne, inOrder, Read, done, refuse, thenRead, bytesAt, allLeftAt, cidAt, upTo, blocksAt, fieldAt, fieldsAt, bit}
+use Rattle.frame.specs.Table.{Row, look, has, readRow, frameBodyAt, table, FrameOutcome, taken, refused, outcome, frameAt, ackFields}
+use Rattle.frame.specs.Walk.{WalkStep, frame, end, stepAt}
 use Rattle.gateway_frame.specs.Frames.{valueOf, frameRecord, frameFor}
 use Rattle.gateway_frame.specs.GivesBack.{valueBack, valuesBack, countIn, AtMostSix, frameStepBack, FrameGivesBack}
 
@@ -92,12 +92,13 @@ module _ (s : List ℕ) where
     field-fine orNone at seen next g = then-all (Fine P) (varAt s at) _ _ (λ _. ten) (λ v n _. g _ n)
     field-fine atMost at seen next g = then-all (Fine P) (varAt s at) _ _ (λ _. ten) (λ v n _. if-all (Fine P) _ _ _ (λ _. twelve) (λ _. g _ n))
     field-fine bytes at seen next g = then-all (Fine P) (bytesAt s at) _ _ (λ _. ten) (λ v n _. g _ n)
-    field-fine rest at seen next g = then-all (Fine P) (restAt s at) _ _ (λ _. ten) (λ v n _. g _ n)
+    field-fine rest at seen next g = then-all (Fine P) (allLeftAt s at) _ _ (λ _. ten) (λ v n _. g _ n)
     field-fine (fixed w) at seen next g = then-all (Fine P) (takeAt w s at) _ _ (λ _. ten) (λ v n _. g _ n)
     field-fine num64 at seen next g = then-all (Fine P) (fixedAt 8 s at) _ _ (λ _. ten) (λ v n _. g _ n)
     field-fine cid at seen next g = then-fine (cidAt s at) (cid-fine at) _ (λ v n. g _ n)
     field-fine ackBlocks at seen next g = then-fine (blocksAt s at (lastButOne seen)) (blocks-fine at (lastButOne seen)) _ (λ v n. g _ n)
-    field-fine (const v) at seen next g = g v at
+    field-fine (const v) at seen next g = g (num v) at
+    field-fine absent at seen next g = g none at
 
   fields-fine : (name : ℕ) (fs : List Field) (at : ℕ) (seen : List Value) → Fine (Counts (length seen + length fs)) (fieldsAt name fs s at seen)
   unfolding fieldsAt
@@ -133,7 +134,7 @@ values-back start t name (a ∷ b ∷ c ∷ d ∷ e ∷ f ∷ g ∷ vs) next h =
 -- ---- a step, over any table whose rows have at most six fields
 
 module _ (rows : List Row) (few : AtMostSix rows) (at : ℕ) where
-  abbrev Back : Step → Type 0
+  abbrev Back : WalkStep → Type 0
   Back x = (frameStepBack rows (frameRecord at x) ≡ x) × (frameRecord at x .start ≡ at)
 
   none-back : (k : ℕ) → (k ≡ 0 → ⊥) → Back (frame (refused k at option.none))
@@ -151,12 +152,12 @@ module _ (rows : List Row) (few : AtMostSix rows) (at : ℕ) where
   read-back t (refuse k) z = (rw (ne-eqb k 0 z), refl)
 
   pub step-back : (s : List ℕ) → Back (stepAt rows s at)
-  unfolding stepAt frameAt bodyAt
+  unfolding stepAt frameAt frameBodyAt
   step-back s =
       if-all Back _ _ _ (λ _. none-back 14 (λ z. omega (arith, z))) (λ _.
       if-all Back _ _ _ (λ _. none-back 13 (λ z. omega (arith, z))) (λ _.
       if-all Back _ _ _ (λ _. end-back) (λ _.
-      then-all (λ (o : Outcome). Back (frame o)) (varAt s at) _ _ (λ _. none-back 10 ten) (λ t n _. read-back t _ (row-fine s (look rows t) t n)))))
+      then-all (λ (o : FrameOutcome). Back (frame o)) (varAt s at) _ _ (λ _. none-back 10 ten) (λ t n _. read-back t _ (row-fine s (look rows t) t n)))))
 
 -- ---- the table of frames
 

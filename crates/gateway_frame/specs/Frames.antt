@@ -10,7 +10,7 @@ use Rattle.coding.specs.Words.{if_then_else_}
 use Rattle.coding.specs.Bytes.{byteAt}
 use Rattle.frame.specs.Format.{Value, num, place, none, Said, said}
 use Rattle.frame.specs.Table.{table, taken, refused}
-use Rattle.frame.specs.Walk.{Step, frame, end, stepAt}
+use Rattle.frame.specs.Walk.{WalkStep, frame, end, stepAt}
 use Rattle.gateway_frame.specs.Spans.{spanAt, spanOf}
 use Rattle.gateway_frame.specs.declared.records.FrameValue.{FrameValue}
 use Rattle.gateway_frame.specs.declared.records.FrameAnswer.{FrameAnswer}
@@ -100,7 +100,7 @@ abbrev pub frameRefused : ℕ → ℕ → Option ℕ → FrameAnswer
 frameRefused k start option.none = noFrame k 0 start 0
 frameRefused k start (some t) = noFrame k 1 start t
 
-unfoldable pub frameRecord : ℕ → Step → FrameAnswer
+unfoldable pub frameRecord : ℕ → WalkStep → FrameAnswer
 frameRecord at (frame (taken t f next)) = foundRecord at t (frameRowOf f) next
 frameRecord at (frame (refused k start t)) = frameRefused k start t
 frameRecord at end = noFrame 0 0 at 0

@@ -9,7 +9,7 @@ use lib.Dec.{eqb}
 use Rattle.coding.specs.Words.{if_then_else_}
 use Rattle.frame.specs.Format.{Value, num, place, none, Said, said}
 use Rattle.frame.specs.Table.{Row, look, table, taken, refused}
-use Rattle.frame.specs.Walk.{Step, frame, end, stepAt}
+use Rattle.frame.specs.Walk.{WalkStep, frame, end, stepAt}
 use Rattle.gateway_frame.specs.Spans.{placeBack}
 use Rattle.gateway_frame.specs.Frames.{frameFor}
 use Rattle.gateway_frame.specs.declared.records.FrameValue.{FrameValue}
@@ -38,7 +38,7 @@ saidBack rows r = said (r .name) (take (countIn (look rows (r .«frame_type»)) 
 abbrev pub typeBack : FrameAnswer → Option ℕ
 typeBack r = if eqb (r .«has_type») 0 then option.none else some (r .«frame_type»)
 
-abbrev pub frameStepBack : List Row → FrameAnswer → Step
+abbrev pub frameStepBack : List Row → FrameAnswer → WalkStep
 frameStepBack rows r =
     if eqb (r .found) 1 then frame (taken (r .«frame_type») (saidBack rows r) (r .next)) else
     if eqb (r .refusal) 0 then end else
