@@ -1,4 +1,4 @@
--- Laws of this crate's definitions. Assumes nothing.
+-- Laws of this crate's definitions.
 use mathlib.Core.Path.{_≡_, refl}
 use mathlib.Core.List.{List}
 use mathlib.Core.Bool.{Bool, true, false}

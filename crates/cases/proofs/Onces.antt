@@ -1,4 +1,4 @@
--- Only one answer, and only one content of each lent buffer, meets the contract of each public function. Assumes nothing.
+-- Only one answer, and only one content of each lent buffer, meets the contract of each public function.
 use mathlib.Core.Path.{_≡_, refl, sym, _∙_}
 use mathlib.Core.List.{List}
 use Prim.Native.Nat.{ℕ}
@@ -34,8 +34,20 @@ use Rattle.cases.proofs.line.written as written
 use Rattle.cases.proofs.line.written.Reads as written-reads
 use Rattle.cases.proofs.line.wrote as wrote
 use Rattle.cases.proofs.line.wrote.Reads as wrote-reads
-use Rattle.cases.proofs.line.end as end
-use Rattle.cases.proofs.line.end.Reads as end-reads
+use Rattle.cases.proofs.line.nums as nums
+use Rattle.cases.proofs.line.nums.Reads as nums-reads
+use Rattle.cases.proofs.line.and_part as and-part
+use Rattle.cases.proofs.line.and_part.Reads as and-part-reads
+use Rattle.cases.proofs.stdio.room as room
+use Rattle.cases.proofs.stdio.room.Reads as room-reads
+use Rattle.cases.proofs.stdio.lines as lines
+use Rattle.cases.proofs.stdio.lines.Reads as lines-reads
+use Rattle.cases.proofs.stdio.spill as spill
+use Rattle.cases.proofs.stdio.spill.Reads as spill-reads
+use Rattle.cases.proofs.stdio.end_line as end-line
+use Rattle.cases.proofs.stdio.end_line.Reads as end-line-reads
+use Rattle.cases.proofs.stdio.end as end
+use Rattle.cases.proofs.stdio.end.Reads as end-reads
 
 -- ---- records
 
@@ -89,6 +101,14 @@ and-nums-once : Once {B = ℕ × List ℕ} and-nums.ended and-nums-reads.Post (�
 unfolding Once
 and-nums-once κs a x y s t p q = one-text _ _ _ x y _ _ p q
 
+nums-once : Once {B = ℕ × List ℕ} nums.ended nums-reads.Post (λ κs x s. (x, now (s .0)))
+unfolding Once
+nums-once κs a x y s t p q = one-text _ _ _ x y _ _ p q
+
+and-part-once : Once {B = ℕ × List ℕ} and-part.ended and-part-reads.Post (λ κs x s. (x, now (s .0)))
+unfolding Once
+and-part-once κs a x y s t p q = one-text _ _ _ x y _ _ p q
+
 say-once : Once {B = ℕ × List ℕ} say.ended say-reads.Post (λ κs x s. (x, now (s .0)))
 unfolding Once
 say-once κs a x y s t p q = one-text _ _ _ x y _ _ p q
@@ -100,6 +120,24 @@ written-once κs a x y s t p q = p ∙ sym q
 wrote-once : Once {B = ℕ × List ℕ} wrote.ended wrote-reads.Post (λ κs x s. (x, now (s .0)))
 unfolding Once
 wrote-once κs a x y s t p q = one-text _ _ _ x y _ _ p q
+
+-- ---- standard input and output; what `next` reads is in no contract
+
+room-once : Once room.ended room-reads.Post (λ κs x s. x)
+unfolding Once
+room-once κs a x y s t p q = p .is ∙ sym (q .is)
+
+lines-once : Once lines.ended lines-reads.Post (λ κs x s. x)
+unfolding Once
+lines-once κs a x y s t p q = p .is ∙ sym (q .is)
+
+spill-once : Once spill.ended spill-reads.Post (λ κs x s. x)
+unfolding Once
+spill-once κs a x y s t p q = p ∙ sym q
+
+end-line-once : Once {B = ℕ × List ℕ} end-line.ended end-line-reads.Post (λ κs x s. (x, now (s .0)))
+unfolding Once
+end-line-once κs a x y s t p q i = ((p .says ∙ sym (q .says)) i, (p .leaves ∙ sym (q .leaves)) i)
 
 end-once : Once {B = ℕ × List ℕ} end.ended end-reads.Post (λ κs x s. (x, now (s .0)))
 unfolding Once

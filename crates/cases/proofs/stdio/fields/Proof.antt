@@ -2,20 +2,16 @@
 use native.Mathlib.Omega.{arith}
 use lib.ListN.{length-take}
 use borrow.Author.Needs.{needs}
-use Rattle.replay_packet.proofs.next.Statement.{statement}
-use Rattle.replay_packet.proofs.next.Tie as tie
+use Rattle.cases.specs.Said.{turnOf}
+use Rattle.cases.specs.Streams.{fieldsIn}
+use Rattle.cases.proofs.stdio.fields.Statement.{statement}
+use Rattle.cases.proofs.stdio.fields.Tie as tie
 
-pub next-spec : {M : Type 1} → statement M
-next-spec =
+pub fields-spec : {M : Type 1} → statement M
+unfolding fieldsIn turnOf
+fields-spec =
     tie.close
     (tie.spec
-    (λ c. search needs)
-    (λ c κs. search needs)
-    (λ c. search needs)
-    (λ c. search needs)
-    (λ c κs. search needs)
-    (λ c. search needs)
-    (λ c. search needs)
     (λ c. search needs)
     (λ c. search needs)
     (λ c. simp length-take (omega arith))

@@ -1,11 +1,11 @@
--- The fields have room in the buffer.
-use native.Mathlib.Omega.{arith}
-use lib.ListN.{length-take}
 use borrow.Author.Needs.{needs}
-use Rattle.replay_frame.proofs.next.Statement.{statement}
-use Rattle.replay_frame.proofs.next.Tie as tie
+use Rattle.cases.specs.Said.{turnOf}
+use Rattle.cases.specs.Streams.{fieldsIn}
+use Rattle.cases.proofs.stdio.next.Statement.{statement}
+use Rattle.cases.proofs.stdio.next.Tie as tie
 
 pub next-spec : {M : Type 1} → statement M
+unfolding fieldsIn turnOf
 next-spec =
     tie.close
     (tie.spec
@@ -15,11 +15,9 @@ next-spec =
     (λ c. search needs)
     (λ c κs. search needs)
     (λ c. search needs)
-    (λ c. search needs)
-    (λ c. search needs)
-    (λ c. search needs)
-    (λ c. simp length-take (omega arith))
     (λ c κs. search needs)
+    (λ c. search needs)
+    (λ c. search needs)
     (λ c. search needs)
     (λ c. search needs)
     (λ c. search needs)
