@@ -18,6 +18,14 @@ use Rattle.cases.proofs.record.bytes as bytes
 use Rattle.cases.proofs.record.bytes.Reads as bytes-reads
 use Rattle.cases.proofs.record.lay as lay
 use Rattle.cases.proofs.record.lay.Reads as lay-reads
+use Rattle.cases.proofs.record.byte as byte
+use Rattle.cases.proofs.record.byte.Reads as byte-reads
+use Rattle.cases.proofs.record.word as word
+use Rattle.cases.proofs.record.word.Reads as word-reads
+use Rattle.cases.proofs.record.five as five
+use Rattle.cases.proofs.record.five.Reads as five-reads
+use Rattle.cases.proofs.record.words as words
+use Rattle.cases.proofs.record.words.Reads as words-reads
 use Rattle.cases.proofs.line.num as num
 use Rattle.cases.proofs.line.num.Reads as num-reads
 use Rattle.cases.proofs.line.hex as hex
@@ -78,6 +86,22 @@ bytes-once κs a x y s t p q = one-part _ x y _ _ p q
 lay-once : Once {B = ℕ × List ℕ} lay.ended lay-reads.Post (λ κs x s. (x, now (s .0)))
 unfolding Once
 lay-once κs a x y s t p q = one-put _ _ _ x y _ _ (p .put) (q .put)
+
+byte-once : Once byte.ended byte-reads.Post (λ κs x s. x)
+unfolding Once
+byte-once κs a x y s t p q = p ∙ sym q
+
+word-once : Once word.ended word-reads.Post (λ κs x s. x)
+unfolding Once
+word-once κs a x y s t p q = p ∙ sym q
+
+five-once : Once five.ended five-reads.Post (λ κs x s. x)
+unfolding Once
+five-once κs a x y s t p q = p ∙ sym q
+
+words-once : Once {B = ℕ × List ℕ} words.ended words-reads.Post (λ κs x s. (x, now (s .1 .0)))
+unfolding Once
+words-once κs a x y s t p q = p .says ∙ sym (q .says)
 
 -- ---- lines
 
