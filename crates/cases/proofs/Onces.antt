@@ -22,6 +22,8 @@ use Rattle.cases.proofs.record.byte as byte
 use Rattle.cases.proofs.record.byte.Reads as byte-reads
 use Rattle.cases.proofs.record.word as word
 use Rattle.cases.proofs.record.word.Reads as word-reads
+use Rattle.cases.proofs.record.byte_at as byte-at
+use Rattle.cases.proofs.record.byte_at.Reads as byte-at-reads
 use Rattle.cases.proofs.record.five as five
 use Rattle.cases.proofs.record.five.Reads as five-reads
 use Rattle.cases.proofs.record.words as words
@@ -94,6 +96,10 @@ byte-once κs a x y s t p q = p ∙ sym q
 word-once : Once word.ended word-reads.Post (λ κs x s. x)
 unfolding Once
 word-once κs a x y s t p q = p ∙ sym q
+
+byte-at-once : Once byte-at.ended byte-at-reads.Post (λ κs x s. x)
+unfolding Once
+byte-at-once κs a x y s t p q = p ∙ sym q
 
 five-once : Once five.ended five-reads.Post (λ κs x s. x)
 unfolding Once

@@ -124,7 +124,7 @@ pub fn bytes(rec: &[u8], j: u8) -> &[u8]
 }
 
 // Byte i of a part.
-fn byte_at(b: &[u8], i: usize) -> u8
+pub fn byte_at(b: &[u8], i: usize) -> u8
     ensures { λ r. ⌜ r ≡ byteIn (now (b .entry)) i ⌝ }
 {
     let U8Read::Num(x, _) = coding::get_u8(b, i) else {

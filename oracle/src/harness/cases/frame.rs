@@ -36,7 +36,7 @@ fn fields(ty: u64) -> &'static str {
 }
 
 /// Frames in a run, cut or changed at times; rarely anything, or a payload as long as there is.
-fn payload(r: &mut Rng) -> Vec<u8> {
+pub fn payload(r: &mut Rng) -> Vec<u8> {
     if r.one_in(8_000) {
         return long_payload(r);
     }
