@@ -1,4 +1,6 @@
-// A program's standard input and output: records in, lines out.
+// A replay program's standard input and output. It reads packed cases until the input ends and prints an answer to each, a line
+// for a case. The last line is `end` and the count; where the input stops within a record, or one is longer than the buffer, it is
+// `stopped` after a BAD RECORD. oracle/ has the records' form and what the Rust answers.
 use crate::line;
 use crate::record;
 use crate::record::Turn;

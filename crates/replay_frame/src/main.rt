@@ -1,6 +1,4 @@
-// Reads packed cases on standard input until it ends and prints the answer of `frame`, `ack` and `ecn` to each, a line for a
-// case. oracle/ has the records' form and what the Rust answers. The last line is `end` and the count; where the input stops
-// within a record, or one is longer than the buffer, it is `stopped` after a BAD RECORD.
+// Prints what `frame`, `ack` and `ecn` answer to packed cases, a line for a case (cases/src/stdio.rt).
 mod blocks; // blocks.rt: ACK blocks and ECN counts
 mod shown; // shown.rt: a frame's text
 mod walk; // walk.rt: the frames of a payload

@@ -47,10 +47,5 @@ fn put_frame(a: FrameAnswer, payload: &[u8], out: &mut [u8], p: usize) -> usize 
 pub(crate) fn read(rec: &[u8], out: &mut [u8], p: usize) -> usize {
     let at = record::numbers_of(rec).n0 as usize;
     let payload = record::bytes(rec, 0);
-    put_frame(
-        gateway::guobbarel_frame_read(payload, at),
-        payload,
-        out,
-        p,
-    )
+    put_frame(gateway::guobbarel_frame_read(payload, at), payload, out, p)
 }

@@ -1,7 +1,5 @@
-// Reads packed cases on standard input until it ends and prints what the functions of `gateway` answer to each, a line for a
-// case: every field of the record in its order, then the bytes at its places and all of a lent buffer. oracle/ has the cases'
-// form and what the Rust answers. The last line is `end` and the count; where the input stops within a record, or one is
-// longer than the buffer, it is `stopped` after a BAD RECORD.
+// Prints what the functions of `gateway` answer to packed cases, a line for a case (cases/src/stdio.rt): every field of the record
+// in its order, then the bytes at its places and all of a lent buffer.
 mod frames; // frames.rt: frame_read
 mod headers; // headers.rt: header_write and mask
 mod numbers; // numbers.rt: number_step

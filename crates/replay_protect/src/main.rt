@@ -1,6 +1,4 @@
-// Reads packed cases on standard input until it ends and prints the answer of `protect`, where it reads, to each, a line for
-// a case. oracle/ has the records' form and what the Rust answers. The last line is `end` and the count; where the input
-// stops within a record, or one is longer than the buffer, it is `stopped` after a BAD RECORD.
+// Prints what `protect`, where it reads, answers to packed cases, a line for a case (cases/src/stdio.rt).
 mod opening; // opening.rt: the sample's place, and finish
 
 use cases::line;
