@@ -163,7 +163,7 @@ fn new_cid(r: &mut Rng, d: &mut Vec<u8>) {
 }
 
 /// One large frame that ends a payload of about the longest.
-fn long_payload(r: &mut Rng) -> Vec<u8> {
+pub fn long_payload(r: &mut Rng) -> Vec<u8> {
     let mut d = Vec::new();
     while r.one_in(2) {
         frame(r, &mut d);

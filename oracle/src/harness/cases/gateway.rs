@@ -87,7 +87,7 @@ fn gunmask(r: &mut Rng) -> String {
 }
 
 fn gframe(r: &mut Rng) -> String {
-    let payload = hex(&frame::payload(r));
+    let payload = hex(&if r.one_in(1_500) { frame::long_payload(r) } else { frame::payload(r) });
     let starts = starts(&format!("frames {payload}"), " ; ");
     format!("{} {payload}", place(r, &starts, len(&payload)))
 }
