@@ -2,4 +2,4 @@
 pub mod Records
 pub mod Lines
 pub mod Said
-pub mod Streams
+pub mod Stdio

@@ -15,7 +15,7 @@ ghost use lib.ListN.{length};
 ghost use Rattle.text.specs.Puts.{PutAll};
 ghost use Rattle.cases.specs.Lines.{endLine};
 ghost use Rattle.cases.specs.Said.{turnOf};
-ghost use Rattle.cases.specs.Streams.{Zeros, fieldsIn, kept, LineEnded};
+ghost use Rattle.cases.specs.Stdio.{Zeros, fieldsIn, kept, LineEnded};
 
 // More records than any run has: a proved loop ends.
 pub const MOST: u64 = 1_000_000_000_000_000;

@@ -1,7 +1,7 @@
 -- A line feed is a text of one piece.
 use mathlib.Core.Path.{ap, _∙_}
 use Rattle.text.proofs.Puts.{one-piece}
-use Rattle.cases.specs.Streams.{kept}
+use Rattle.cases.specs.Stdio.{kept}
 use borrow.Author.Needs.{needs}
 use Rattle.cases.proofs.stdio.end_line.Statement.{statement}
 use Rattle.cases.proofs.stdio.end_line.Tie as tie

@@ -3,7 +3,7 @@ use native.Mathlib.Omega.{arith}
 use lib.ListN.{length-take}
 use borrow.Author.Needs.{needs}
 use Rattle.cases.specs.Said.{turnOf}
-use Rattle.cases.specs.Streams.{fieldsIn}
+use Rattle.cases.specs.Stdio.{fieldsIn}
 use Rattle.cases.proofs.stdio.fields.Statement.{statement}
 use Rattle.cases.proofs.stdio.fields.Tie as tie
 

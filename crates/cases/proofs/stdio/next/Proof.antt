@@ -1,6 +1,6 @@
 use borrow.Author.Needs.{needs}
 use Rattle.cases.specs.Said.{turnOf}
-use Rattle.cases.specs.Streams.{fieldsIn}
+use Rattle.cases.specs.Stdio.{fieldsIn}
 use Rattle.cases.proofs.stdio.next.Statement.{statement}
 use Rattle.cases.proofs.stdio.next.Tie as tie
 
