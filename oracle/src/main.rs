@@ -26,6 +26,7 @@ fn main() -> ExitCode {
         ["unpack"] => records(|line| writeln!(out, "{line}")),
         ["random", seed, from, count, ref ops @ ..] => random(&mut out, [seed, from, count], ops),
         ["exhaust"] => exhaust(&mut out),
+        ["-h" | "--help"] => writeln!(out, "{USAGE}"),
         _ => {
             eprintln!("{USAGE}");
             return ExitCode::from(2);

@@ -1,4 +1,4 @@
--- Only one answer, and only one content of each lent buffer, meets the contract of each public function. Assumes nothing.
+-- Only one answer, and only one content of each lent buffer, meets the contract of each public function.
 use mathlib.Core.Path.{_≡_, refl, sym, _∙_}
 use mathlib.Core.List.{List}
 use Prim.Native.Nat.{ℕ}
@@ -18,6 +18,16 @@ use Rattle.cases.proofs.record.bytes as bytes
 use Rattle.cases.proofs.record.bytes.Reads as bytes-reads
 use Rattle.cases.proofs.record.lay as lay
 use Rattle.cases.proofs.record.lay.Reads as lay-reads
+use Rattle.cases.proofs.record.byte as byte
+use Rattle.cases.proofs.record.byte.Reads as byte-reads
+use Rattle.cases.proofs.record.word as word
+use Rattle.cases.proofs.record.word.Reads as word-reads
+use Rattle.cases.proofs.record.byte_at as byte-at
+use Rattle.cases.proofs.record.byte_at.Reads as byte-at-reads
+use Rattle.cases.proofs.record.five as five
+use Rattle.cases.proofs.record.five.Reads as five-reads
+use Rattle.cases.proofs.record.words as words
+use Rattle.cases.proofs.record.words.Reads as words-reads
 use Rattle.cases.proofs.line.num as num
 use Rattle.cases.proofs.line.num.Reads as num-reads
 use Rattle.cases.proofs.line.hex as hex
@@ -34,8 +44,20 @@ use Rattle.cases.proofs.line.written as written
 use Rattle.cases.proofs.line.written.Reads as written-reads
 use Rattle.cases.proofs.line.wrote as wrote
 use Rattle.cases.proofs.line.wrote.Reads as wrote-reads
-use Rattle.cases.proofs.line.end as end
-use Rattle.cases.proofs.line.end.Reads as end-reads
+use Rattle.cases.proofs.line.nums as nums
+use Rattle.cases.proofs.line.nums.Reads as nums-reads
+use Rattle.cases.proofs.line.and_part as and-part
+use Rattle.cases.proofs.line.and_part.Reads as and-part-reads
+use Rattle.cases.proofs.stdio.room as room
+use Rattle.cases.proofs.stdio.room.Reads as room-reads
+use Rattle.cases.proofs.stdio.lines as lines
+use Rattle.cases.proofs.stdio.lines.Reads as lines-reads
+use Rattle.cases.proofs.stdio.spill as spill
+use Rattle.cases.proofs.stdio.spill.Reads as spill-reads
+use Rattle.cases.proofs.stdio.end_line as end-line
+use Rattle.cases.proofs.stdio.end_line.Reads as end-line-reads
+use Rattle.cases.proofs.stdio.end as end
+use Rattle.cases.proofs.stdio.end.Reads as end-reads
 
 -- ---- records
 
@@ -67,6 +89,26 @@ lay-once : Once {B = ℕ × List ℕ} lay.ended lay-reads.Post (λ κs x s. (x, 
 unfolding Once
 lay-once κs a x y s t p q = one-put _ _ _ x y _ _ (p .put) (q .put)
 
+byte-once : Once byte.ended byte-reads.Post (λ κs x s. x)
+unfolding Once
+byte-once κs a x y s t p q = p ∙ sym q
+
+word-once : Once word.ended word-reads.Post (λ κs x s. x)
+unfolding Once
+word-once κs a x y s t p q = p ∙ sym q
+
+byte-at-once : Once byte-at.ended byte-at-reads.Post (λ κs x s. x)
+unfolding Once
+byte-at-once κs a x y s t p q = p ∙ sym q
+
+five-once : Once five.ended five-reads.Post (λ κs x s. x)
+unfolding Once
+five-once κs a x y s t p q = p ∙ sym q
+
+words-once : Once {B = ℕ × List ℕ} words.ended words-reads.Post (λ κs x s. (x, now (s .1 .0)))
+unfolding Once
+words-once κs a x y s t p q = p .says ∙ sym (q .says)
+
 -- ---- lines
 
 num-once : Once {B = ℕ × List ℕ} num.ended num-reads.Post (λ κs x s. (x, now (s .0)))
@@ -89,6 +131,14 @@ and-nums-once : Once {B = ℕ × List ℕ} and-nums.ended and-nums-reads.Post (�
 unfolding Once
 and-nums-once κs a x y s t p q = one-text _ _ _ x y _ _ p q
 
+nums-once : Once {B = ℕ × List ℕ} nums.ended nums-reads.Post (λ κs x s. (x, now (s .0)))
+unfolding Once
+nums-once κs a x y s t p q = one-text _ _ _ x y _ _ p q
+
+and-part-once : Once {B = ℕ × List ℕ} and-part.ended and-part-reads.Post (λ κs x s. (x, now (s .0)))
+unfolding Once
+and-part-once κs a x y s t p q = one-text _ _ _ x y _ _ p q
+
 say-once : Once {B = ℕ × List ℕ} say.ended say-reads.Post (λ κs x s. (x, now (s .0)))
 unfolding Once
 say-once κs a x y s t p q = one-text _ _ _ x y _ _ p q
@@ -100,6 +150,24 @@ written-once κs a x y s t p q = p ∙ sym q
 wrote-once : Once {B = ℕ × List ℕ} wrote.ended wrote-reads.Post (λ κs x s. (x, now (s .0)))
 unfolding Once
 wrote-once κs a x y s t p q = one-text _ _ _ x y _ _ p q
+
+-- ---- standard input and output; what `next` reads is in no contract
+
+room-once : Once room.ended room-reads.Post (λ κs x s. x)
+unfolding Once
+room-once κs a x y s t p q = p .is ∙ sym (q .is)
+
+lines-once : Once lines.ended lines-reads.Post (λ κs x s. x)
+unfolding Once
+lines-once κs a x y s t p q = p .is ∙ sym (q .is)
+
+spill-once : Once spill.ended spill-reads.Post (λ κs x s. x)
+unfolding Once
+spill-once κs a x y s t p q = p ∙ sym q
+
+end-line-once : Once {B = ℕ × List ℕ} end-line.ended end-line-reads.Post (λ κs x s. (x, now (s .0)))
+unfolding Once
+end-line-once κs a x y s t p q i = ((p .says ∙ sym (q .says)) i, (p .leaves ∙ sym (q .leaves)) i)
 
 end-once : Once {B = ℕ × List ℕ} end.ended end-reads.Post (λ κs x s. (x, now (s .0)))
 unfolding Once

@@ -1,4 +1,4 @@
--- The rules of a `search` at a return, for bytes after their length. Assumes nothing.
+-- The rules of a `search` at a return, for bytes after their length.
 use mathlib.Core.Path.{_≡_}
 use mathlib.Core.List.{List}
 use Prim.Native.Nat.{ℕ}

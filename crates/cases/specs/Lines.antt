@@ -23,6 +23,10 @@ unfoldable pub andNums : List ℕ → List (List ℕ)
 andNums [] = []
 andNums (n ∷ ns) = andNum n ++ andNums ns
 
+-- a number, and numbers after it
+unfoldable pub nums : ℕ → List ℕ → List (List ℕ)
+nums first ns = (decimal first ∷ []) ++ andNums ns
+
 -- "ok", "none", "no"
 abbrev pub okWord : List ℕ
 okWord = 0x6f ∷ 0x6b ∷ []

@@ -2,8 +2,8 @@
 -- its parts, each after its length in 3 bytes.
 use Prim.Native.Nat.{ℕ, zero, suc, _+_, _*_, _≤_}
 use mathlib.Core.Path.{_≡_}
-use mathlib.Core.List.{List}
-use lib.ListN.{length, take}
+use mathlib.Core.List.{List, [], _∷_}
+use lib.ListN.{length, take, set}
 use Rattle.coding.specs.Words.{Got, cut, andThen}
 use Rattle.coding.specs.Reading.{fixedAt, takeAt}
 use Rattle.coding.specs.Writing.{Put}
@@ -42,11 +42,28 @@ partAfter (suc j) s at = andThen (sizedAt s at) cut (λ p next. partAfter j s ne
 unfoldable pub partIn : List ℕ → ℕ → Place
 partIn s j = andThen (partAfter j s 48) (record { start = 0; len = 0 }) (λ p next. p)
 
--- n counts bytes at the start of l, which the proof that Rattle makes of `&mut l[..n]` asks for in both ways
+-- byte i of a part; 0 where it has none
+unfoldable pub byteIn : List ℕ → ℕ → ℕ
+byteIn s i = andThen (fixedAt 1 s i) 0 (λ x next. x)
+
+unfoldable pub fiveIn : List ℕ → List ℕ
+fiveIn s = byteIn s 0 ∷ byteIn s 1 ∷ byteIn s 2 ∷ byteIn s 3 ∷ byteIn s 4 ∷ []
+
+-- n counts elements at the start of l, which the proof that Rattle makes of `&mut l[..n]` asks for in both ways
 abbrev pub Counts : ℕ → List ℕ → Type 0
 Counts n l = (n ≤ length l) × (n ≡ length (take n l))
 
 -- bs are laid at the start of a buffer, where they fit; n is how many they are
 pub record Laid (bs old : List ℕ) (n : ℕ) (new : List ℕ) : Type 0 where
   pub put : Put bs old 0 n new
+  pub within : Counts n new
+
+-- numbers of 4 bytes from a place of s on, put into a list from its place n on, at most so many: how many there are then, and
+-- the list
+unfoldable pub wordsFrom : ℕ → List ℕ → ℕ → (ℕ × List ℕ) → (ℕ × List ℕ)
+wordsFrom zero s at o = o
+wordsFrom (suc most) s at (n, list) = andThen (fixedAt 4 s at) (n, list) (λ x next. wordsFrom most s next (n + 1, set list n x))
+
+pub record Listed (s old : List ℕ) (n : ℕ) (new : List ℕ) : Type 0 where
+  pub says : _≡_ {A = ℕ × List ℕ} (n, new) (wordsFrom (length old) s 0 (0, old))
   pub within : Counts n new

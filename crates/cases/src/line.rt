@@ -12,7 +12,7 @@ ghost use mathlib.Core.List.{[], _∷_};
 ghost use Rattle.coding.specs.Places.{partOf};
 ghost use Rattle.text.specs.Decimal.{decimal};
 ghost use Rattle.text.specs.Puts.{PutAll};
-ghost use Rattle.cases.specs.Lines.{hexWord, andNum, andHex, andNums, answerWords, endWords, endWord, endLine};
+ghost use Rattle.cases.specs.Lines.{hexWord, andNum, andHex, andNums, nums, answerWords, endWords, endWord, endLine};
 ghost use Rattle.cases.specs.Said.{wordOf, numbersOf, answerLine, writtenOf, isBad, wroteLine, turnOf};
 
 pub fn num(out: &mut [u8], at: usize, n: u64) -> usize
@@ -53,6 +53,21 @@ pub fn and_nums(out: &mut [u8], at: usize, ns: &[u64]) -> usize
         i += 1;
     }
     p
+}
+
+// A number, and numbers after it.
+pub fn nums(out: &mut [u8], at: usize, first: u64, ns: &[u64]) -> usize
+    ensures { λ r. ⌜ PutAll (nums first (now (ns .entry))) (now (out .entry)) at r (now (out .exit)) ⌝ }
+{
+    let p = num(out, at, first);
+    and_nums(out, p, ns)
+}
+
+// The bytes at a place of s, after a space.
+pub fn and_part(out: &mut [u8], at: usize, s: &[u8], place: Place) -> usize
+    ensures { λ r. ⌜ PutAll (andHex (partOf (now (s .entry)) place)) (now (out .entry)) at r (now (out .exit)) ⌝ }
+{
+    and_hex(out, at, part(s, place))
 }
 
 // What an operation answers: that there is no such operation, none, a refusal, or ok with up to three numbers; or a number
@@ -160,7 +175,7 @@ fn ending(t: Turn) -> Place
 }
 
 // The last line: how the input ended, and how many records it had.
-pub fn end(out: &mut [u8], at: usize, t: Turn, count: u64) -> usize
+pub(crate) fn end(out: &mut [u8], at: usize, t: Turn, count: u64) -> usize
     ensures { λ r. ⌜ PutAll (endLine (turnOf t) count) (now (out .entry)) at r (now (out .exit)) ⌝ }
 {
     let p = put_slice(out, at, part(b"end BAD RECORD\nstopped ", ending(t)));

@@ -4,13 +4,15 @@ use coding::Place;
 use coding::PlaceRead;
 use coding::U8Read;
 use coding::U16Read;
+use coding::U32Read;
 use coding::U64Read;
 use coding::part;
 use coding::put_slice;
 ghost use mathlib.Core.Path.{_≡_};
+ghost use Prim.Native.Nat.{_%_};
 ghost use Rattle.coding.specs.Places.{Part, startOf, partOf};
 ghost use Rattle.coding.specs.Said.{placeOf};
-ghost use Rattle.cases.specs.Records.{headIn, sizedAt, numberIn, numbersIn, partIn, Laid};
+ghost use Rattle.cases.specs.Records.{headIn, sizedAt, numberIn, numbersIn, partIn, byteIn, fiveIn, Laid, Listed};
 ghost use Rattle.cases.specs.Said.{turnOf};
 
 // A record's operation and how many bytes its fields are; or that there is none, or a part of one.
@@ -82,6 +84,19 @@ pub fn numbers_of(rec: &[u8]) -> Numbers
     }
 }
 
+// A number as one of 8 bits, and as one of 32.
+pub fn byte(n: u64) -> u8
+    ensures { λ r. ⌜ r ≡ n % 256 ⌝ }
+{
+    (n % 0x100) as u8
+}
+
+pub fn word(n: u64) -> u32
+    ensures { λ r. ⌜ r ≡ n % 4294967296 ⌝ }
+{
+    (n % 0x1_0000_0000) as u32
+}
+
 // The place of part j of a record.
 fn place(rec: &[u8], j: u8) -> Place
     ensures { λ r. ⌜ r ≡ partIn (now (rec .entry)) j ⌝ }
@@ -108,9 +123,49 @@ pub fn bytes(rec: &[u8], j: u8) -> &[u8]
     part(rec, place(rec, j))
 }
 
+// Byte i of a part.
+pub fn byte_at(b: &[u8], i: usize) -> u8
+    ensures { λ r. ⌜ r ≡ byteIn (now (b .entry)) i ⌝ }
+{
+    let U8Read::Num(x, _) = coding::get_u8(b, i) else {
+        return 0;
+    };
+    x
+}
+
+// The first five bytes of a part: a mask.
+pub fn five(b: &[u8]) -> [u8; 5]
+    ensures { λ r. ⌜ r ≡ fiveIn (now (b .entry)) ⌝ }
+{
+    [
+        byte_at(b, 0),
+        byte_at(b, 1),
+        byte_at(b, 2),
+        byte_at(b, 3),
+        byte_at(b, 4),
+    ]
+}
+
 // Lays a part's bytes at the start of work, to be lent to a writer, and answers how many they are.
 pub fn lay(work: &mut [u8], part: &[u8]) -> usize
     ensures { λ r. ⌜ Laid (now (part .entry)) (now (work .entry)) r (now (work .exit)) ⌝ }
 {
     put_slice(work, 0, part)
+}
+
+// Reads numbers of 4 bytes, as many as the list has room for, and answers how many they are.
+pub fn words(bytes: &[u8], list: &mut [u32]) -> usize
+    ensures { λ r. ⌜ Listed (now (bytes .entry)) (now (list .entry)) r (now (list .exit)) ⌝ }
+{
+    let mut at = 0;
+    let mut n = 0;
+    while n < list.len() {
+        let U32Read::Num(x, next) = coding::get_u32(bytes, at) else {
+            return n;
+        };
+        list[n] = x;
+        at = next;
+        n += 1;
+    }
+    n
 }

@@ -6,7 +6,6 @@ use cases::record;
 use cases::record::Numbers;
 use coding::Place;
 use coding::PlaceRead;
-use coding::U32Read;
 use coding::Wrote;
 use coding::part;
 use coding::put_slice;
@@ -15,34 +14,15 @@ use packet::Found;
 use packet::PartialDecode;
 use packet::ProtectedHeader;
 use packet::Rest;
-ghost use Prim.Native.Nat.{_≤_};
-ghost use lib.ListN.{length};
 
 // More steps than a datagram has packets.
 const MOST_STEPS: usize = 70_000;
-
-// Reads the versions, four bytes each, as many as the list has room for, and answers how many they are.
-fn versions_in(bytes: &[u8], list: &mut [u32]) -> usize
-    ensures { λ r. ⌜ r ≤ length (now (list .exit)) ⌝ }
-{
-    let mut at = 0;
-    let mut n = 0;
-    while n < list.len() {
-        let U32Read::Num(version, next) = coding::get_u32(bytes, at) else {
-            return n;
-        };
-        list[n] = version;
-        at = next;
-        n += 1;
-    }
-    n
-}
 
 // An operation on a datagram that takes the local CID's length, whether there is grease, and the versions; there is room for
 // more of these than the rule allows.
 pub(crate) fn asked(op: u8, rec: &[u8], out: &mut [u8], p: usize) -> usize {
     let mut list = [0u32; 32];
-    let n = versions_in(record::bytes(rec, 0), &mut list);
+    let n = record::words(record::bytes(rec, 0), &mut list);
     read(
         op,
         record::numbers_of(rec),

@@ -14,20 +14,11 @@ use shared::ConnectionId;
 use shared::CutNumber;
 ghost use Prim.Native.Nat.{_≤_};
 
-// A record's number as one of 32 bits, and as one of 8.
-fn word(n: u64) -> u32 {
-    (n % 0x1_0000_0000) as u32
-}
-
-fn byte(n: u64) -> u8 {
-    (n % 0x100) as u8
-}
-
 // Kinds are initial, 0rtt, handshake, retry, short, vneg.
 fn header(ns: Numbers) -> Header {
     let kind = ns.n0;
-    let version = word(ns.n1);
-    let number = CutNumber(ns.n2 as usize, word(ns.n3));
+    let version = record::word(ns.n1);
+    let number = CutNumber(ns.n2 as usize, record::word(ns.n3));
     match kind {
         0 => Header::Initial { number, version },
         1 => Header::Long {
@@ -44,10 +35,10 @@ fn header(ns: Numbers) -> Header {
         4 => Header::Short {
             spin: ns.n1 == 1,
             key_phase: ns.n2 == 1,
-            number: CutNumber(ns.n3 as usize, word(ns.n4)),
+            number: CutNumber(ns.n3 as usize, record::word(ns.n4)),
         },
         _ => Header::VersionNegotiate {
-            random: byte(ns.n1),
+            random: record::byte(ns.n1),
         },
     }
 }
@@ -70,7 +61,7 @@ fn cid(bytes: &[u8]) -> ConnectionId {
     }
     let first = ConnectionId::at(bytes, Place { start: 0, len: 20 }).bytes;
     ConnectionId {
-        len: byte(bytes.len() as u64),
+        len: record::byte(bytes.len() as u64),
         bytes: first,
     }
 }

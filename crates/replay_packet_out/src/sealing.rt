@@ -4,7 +4,6 @@ use cases::line;
 use cases::line::Answer;
 use cases::record;
 use coding::Place;
-use coding::U8Read;
 use coding::part;
 use coding::put_slice;
 use packet_out::Encoded;
@@ -50,7 +49,7 @@ fn step(op: u8, rec: &[u8], packet: &mut [u8]) -> Answer {
     if op == 37 {
         return set_length(to, packet);
     }
-    mask(to, packet, mask_of(record::bytes(rec, 0)))
+    mask(to, packet, record::five(record::bytes(rec, 0)))
 }
 
 // A step over a packet, the record's last part, laid into work.
@@ -59,18 +58,6 @@ pub(crate) fn lent(op: u8, rec: &[u8], work: &mut [u8], out: &mut [u8], p: usize
     let n = record::lay(work, record::bytes(rec, last));
     let said = step(op, rec, &mut work[..n]);
     line::wrote(out, p, said, part(work, Place { start: 0, len: n }))
-}
-
-// Byte i, or 0.
-fn byte(b: &[u8], i: usize) -> u8 {
-    let U8Read::Num(x, _) = coding::get_u8(b, i) else {
-        return 0;
-    };
-    x
-}
-
-fn mask_of(b: &[u8]) -> [u8; 5] {
-    [byte(b, 0), byte(b, 1), byte(b, 2), byte(b, 3), byte(b, 4)]
 }
 
 // The encryption: every byte past the header; a packet with no number is not encrypted.
@@ -118,8 +105,8 @@ fn put_whole(said: Answer, packet: &[u8], out: &mut [u8], p: usize) -> usize {
 // The packet of a header that was written into work.
 fn seal_whole(to: PartialEncode, rec: &[u8], work: &mut [u8], out: &mut [u8], p: usize) -> usize {
     let first = encoding::parts(record::numbers_of(rec).n0);
-    let xor = byte(record::bytes(rec, first + 1), 0);
-    let with = mask_of(record::bytes(rec, first));
+    let xor = record::byte_at(record::bytes(rec, first + 1), 0);
+    let with = record::five(record::bytes(rec, first));
     let n = put_payload(work, to.header_len, record::bytes(rec, first + 2));
     let said = seal(to, &mut work[..n], xor, with);
     put_whole(said, part(work, Place { start: 0, len: n }), out, p)

@@ -3,7 +3,6 @@ use cases::line;
 use cases::line::Answer;
 use cases::record;
 use coding::Place;
-use coding::U8Read;
 use coding::part;
 use coding::put_slice;
 use protect::Finished;
@@ -33,18 +32,6 @@ fn kind_words(kind: Kind) -> Place {
         Kind::Short => Place { start: 37, len: 8 },
         Kind::VersionNegotiate => Place { start: 45, len: 7 },
     }
-}
-
-// Byte i, or 0.
-fn byte(b: &[u8], i: usize) -> u8 {
-    let U8Read::Num(x, _) = coding::get_u8(b, i) else {
-        return 0;
-    };
-    x
-}
-
-fn mask_of(b: &[u8]) -> [u8; 5] {
-    [byte(b, 0), byte(b, 1), byte(b, 2), byte(b, 3), byte(b, 4)]
 }
 
 // What finish says: the number's length, its value and whether the reserved bits are clear, and the place of the words after
@@ -134,7 +121,7 @@ pub(crate) fn finish(rec: &[u8], work: &mut [u8], out: &mut [u8], p: usize) -> u
     let ns = record::numbers_of(rec);
     let kind = kind_by(ns.n0);
     let at = ns.n1 as usize;
-    let mask = mask_of(record::bytes(rec, 0));
+    let mask = record::five(record::bytes(rec, 0));
     let n = record::lay(work, record::bytes(rec, 1));
     let finished = protect::finish(kind, &mut work[..n], at, mask);
     put_finished(

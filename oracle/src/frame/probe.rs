@@ -1,11 +1,13 @@
 //! Child of the given frame.rs: sees its private items.
 mod ack;
 pub(crate) mod bench;
+mod gateway;
 mod leaf;
 mod reading;
 mod writing;
 
 pub(crate) use ack::{ackiter, ackscan, ecn};
+pub(crate) use gateway::gframe;
 pub(crate) use leaf::{ftypes, take};
 pub(crate) use reading::frames;
 pub(crate) use writing::{bounds, fdec, fenc, fsize};

@@ -1,6 +1,7 @@
 //! Cases: lines around every boundary at random, and all of the short ones. Each module has those of one replay program.
 mod frame;
 mod frame_out;
+mod gateway;
 mod leaf;
 mod number;
 mod packet;
@@ -13,13 +14,14 @@ use super::words::hex;
 type Made = (&'static str, u64, fn(&mut Rng) -> String);
 
 /// The modules' operations, and how often each module comes up.
-const MADE: [(u64, &[Made]); 6] = [
+const MADE: [(u64, &[Made]); 7] = [
     (10, leaf::MADE),
     (5, number::MADE),
     (8, packet::MADE),
     (5, packet_out::MADE),
     (8, frame::MADE),
     (6, frame_out::MADE),
+    (6, gateway::MADE),
 ];
 
 /// Hands out every short line.
@@ -30,6 +32,7 @@ pub fn exhaust(emit: &mut dyn FnMut(String)) {
     packet_out::exhaust(emit);
     frame::exhaust(emit);
     frame_out::exhaust(emit);
+    gateway::exhaust(emit);
 }
 
 /// The case of this number, of the operations that are named, by weight, or of any; none where one is no operation.

@@ -23,7 +23,7 @@ const fn op(code: u8, name: &'static str, fields: &'static str, run: Run) -> Op 
     Op { code, name, fields, run }
 }
 
-pub const OPS: [Op; 43] = [
+pub const OPS: [Op; 50] = [
     // varint.rs, coding.rs
     op(1, "vread", "nb", leaf::vread),
     op(2, "vfrom", "n", leaf::vfrom),
@@ -71,6 +71,14 @@ pub const OPS: [Op; 43] = [
     op(70, "bounds", "", frame::probe::bounds),
     op(71, "fdec", "nnb", frame::probe::fdec),
     op(72, "fsize", "nb", frame::probe::fsize),
+    // include/guobbarel.h
+    op(96, "gsplit", "nnnvb", packet::probe::gsplit),
+    op(97, "gsample", "nnb", packet::probe::gsample),
+    op(98, "gunmask", "nnbb", packet::probe::gunmask),
+    op(99, "gframe", "nb", frame::probe::gframe),
+    op(100, "gnumber", "nnnnr", packet::probe::gnumber),
+    op(101, "gheader", "nnnnnnrbbbb", packet::probe::gheader),
+    op(102, "gmask", "nnnbb", packet::probe::gmask),
 ];
 
 /// Kinds of header, with their fields.

@@ -101,6 +101,12 @@ pub fn hex_into(out: &mut String, bytes: &[u8]) {
     }
 }
 
+/// A record of the C surface: its fields as numbers, then the bytes at its places and in lent buffers.
+pub fn record(fields: &[u64], bytes: &[&[u8]]) -> String {
+    let words = fields.iter().map(u64::to_string).chain(bytes.iter().map(|b| hex(b)));
+    words.collect::<Vec<String>>().join(" ")
+}
+
 pub fn hex(bytes: &[u8]) -> String {
     let mut out = String::with_capacity(2 * bytes.len() + 1);
     hex_into(&mut out, bytes);

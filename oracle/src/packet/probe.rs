@@ -1,11 +1,13 @@
 //! Child of the given packet.rs: sees its private items.
 pub(crate) mod bench;
 mod ends;
+mod gateway;
 mod number;
 mod reading;
 mod writing;
 
 pub(crate) use ends::ends;
+pub(crate) use gateway::{gheader, gmask, gnumber, gsample, gsplit, gunmask};
 pub(crate) use number::{pndec, pnenc, pnexp, pnlen, pnnew, pntag};
 pub(crate) use reading::{decode, dump, finish, sample, split, walk};
 pub(crate) use writing::{henc, hlen, hmask, whole};

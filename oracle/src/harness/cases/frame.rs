@@ -36,7 +36,7 @@ fn fields(ty: u64) -> &'static str {
 }
 
 /// Frames in a run, cut or changed at times; rarely anything, or a payload as long as there is.
-fn payload(r: &mut Rng) -> Vec<u8> {
+pub fn payload(r: &mut Rng) -> Vec<u8> {
     if r.one_in(8_000) {
         return long_payload(r);
     }
@@ -163,7 +163,7 @@ fn new_cid(r: &mut Rng, d: &mut Vec<u8>) {
 }
 
 /// One large frame that ends a payload of about the longest.
-fn long_payload(r: &mut Rng) -> Vec<u8> {
+pub fn long_payload(r: &mut Rng) -> Vec<u8> {
     let mut d = Vec::new();
     while r.one_in(2) {
         frame(r, &mut d);

@@ -17,7 +17,7 @@ pub const MADE: &[Made] = &[
 const DISTANCES: [u64; 6] = [0, 1, 1 << 7, 1 << 15, 1 << 23, 1 << 31];
 
 /// A distance: within one of where the length changes, or of any magnitude.
-fn distance(r: &mut Rng) -> u64 {
+pub fn distance(r: &mut Rng) -> u64 {
     if r.one_in(4) {
         let shift = 30 + r.below(34);
         return r.bits() >> shift;
@@ -165,7 +165,7 @@ fn ends(r: &mut Rng) -> String {
 }
 
 /// A number of a run: a little below n, n, just past it; rarely any.
-fn near(r: &mut Rng, n: u64) -> u64 {
+pub fn near(r: &mut Rng, n: u64) -> u64 {
     match r.below(8) {
         0 => n,
         1 => n.saturating_add(1 + r.below(2)),
@@ -174,7 +174,7 @@ fn near(r: &mut Rng, n: u64) -> u64 {
     }
 }
 
-fn set_to(r: &mut Rng) -> u64 {
+pub fn set_to(r: &mut Rng) -> u64 {
     match r.below(4) {
         0 => END + r.below(4) - 2,
         1 => around_62(r),
@@ -183,7 +183,7 @@ fn set_to(r: &mut Rng) -> u64 {
 }
 
 /// A reading: the last bytes of a number about half a window from the largest, or any cut number.
-fn read(r: &mut Rng, largest: u64) -> Step {
+pub fn read(r: &mut Rng, largest: u64) -> Step {
     if r.one_in(4) {
         let (k, value) = cut(r);
         return (READ, k, value as u32);

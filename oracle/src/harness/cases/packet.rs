@@ -149,7 +149,7 @@ fn datagram(r: &mut Rng, reader: &Reader) -> Vec<u8> {
     if r.one_in(2) { b } else { r.damaged(b) }
 }
 
-fn read(r: &mut Rng) -> String {
+pub fn read(r: &mut Rng) -> String {
     let reader = Reader::new(r);
     let datagram = datagram(r, &reader);
     format!("{} {}", reader.words(), hex(&datagram))
@@ -217,7 +217,7 @@ fn taken(r: &mut Rng) -> (String, u64, Vec<u8>) {
     (kind.into(), offset, packet)
 }
 
-fn finish(r: &mut Rng) -> String {
+pub fn finish(r: &mut Rng) -> String {
     let (mask, reader) = (r.bytes(5), Reader::new(r));
     let datagram = datagram(r, &reader);
     let from = if r.one_in(2) { None } else { split_off(&reader.words(), &datagram) };
@@ -225,7 +225,7 @@ fn finish(r: &mut Rng) -> String {
     format!("{kind} {offset} {} {}", hex(&mask), hex(&packet))
 }
 
-fn sample(r: &mut Rng) -> String {
+pub fn sample(r: &mut Rng) -> String {
     let (kind, offset, packet) = taken(r);
     format!("{kind} {offset} {}", hex(&packet))
 }

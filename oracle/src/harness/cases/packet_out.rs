@@ -95,7 +95,7 @@ fn header(r: &mut Rng, token: usize) -> Header {
     }
 }
 
-fn henc(r: &mut Rng) -> String {
+pub fn henc(r: &mut Rng) -> String {
     let token = if r.one_in(300) { MOST - 70 + r.below(70) as usize } else { token_len(r) };
     let header = header(r, token);
     let room = match r.below(6) {
@@ -146,7 +146,7 @@ fn hlen(r: &mut Rng) -> String {
     format!("{} {}", told_words(header_len, k, has_length), hex(&r.bytes(n)))
 }
 
-fn hmask(r: &mut Rng) -> String {
+pub fn hmask(r: &mut Rng) -> String {
     let (header_len, k, has_length) = told(r);
     let n = packet_len(r, header_len, (header_len + 20).saturating_sub(k.unwrap_or(0).min(4) as usize));
     let mut packet = r.bytes(n);

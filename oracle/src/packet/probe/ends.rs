@@ -8,10 +8,10 @@ use crate::harness::words::{Args, Bad};
 const STEP: usize = 13;
 
 #[derive(Default)]
-struct Ends {
-    next: u64,
-    acked: Option<u64>,
-    largest: Option<u64>,
+pub(super) struct Ends {
+    pub next: u64,
+    pub acked: Option<u64>,
+    pub largest: Option<u64>,
 }
 
 /// ends STEPS
@@ -25,7 +25,10 @@ pub(crate) fn ends(a: &mut Args, out: &mut String) -> Result<(), Bad> {
         let n = u64::from_be_bytes(step[1..9].try_into().unwrap());
         let v = u32::from_be_bytes(step[9..].try_into().unwrap());
         match ends.step(step[0], n, v)? {
-            Ok(said) => out.push_str(&said),
+            Ok(Said::Set) => out.push_str("set"),
+            Ok(Said::Kept) => out.push_str("ok"),
+            Ok(Said::Read(n)) => *out += &format!("ok {n}"),
+            Ok(Said::Sent(n, k, value)) => *out += &format!("ok {n} {k} {value}"),
             Err(why) => *out += &format!("no {why}"),
         }
         *out += &format!(" : {} {} {};", ends.next, shown(ends.acked), shown(ends.largest));
@@ -37,27 +40,39 @@ fn shown(n: Option<u64>) -> String {
     n.map_or("-".into(), |n| n.to_string())
 }
 
-/// What a call says: its answer, or the refusal's number.
-type Said = Result<String, u32>;
-
-fn ok() -> Said {
-    Ok("ok".into())
+/// What a step says: nothing but that it was done, the number that was read, or that was sent and what of it goes out.
+pub(super) enum Said {
+    Set,
+    Kept,
+    Read(u64),
+    Sent(u64, usize, u32),
 }
 
+/// Or the refusal's number.
+type Answer = Result<Said, u32>;
+
 impl Ends {
-    fn step(&mut self, step: u8, n: u64, v: u32) -> Result<Said, Bad> {
+    fn step(&mut self, step: u8, n: u64, v: u32) -> Result<Answer, Bad> {
         let at = (v != 0).then_some(n);
         match step {
-            0 => return Ok(self.send()),
-            1 => return Ok(self.acknowledge(n)),
-            2 => return Ok(self.read(n, v)),
-            3 => return Ok(self.accept(n)),
+            0..=3 => return Ok(self.call(step, n, n, v)),
             4 => self.next = n,
             5 => self.acked = at,
             6 => self.largest = at,
             _ => return Err(Bad),
         }
-        Ok(Ok("set".into()))
+        Ok(Ok(Said::Set))
+    }
+
+    /// A call by its number; past 3 there is none.
+    pub(super) fn call(&mut self, step: u8, n: u64, k: u64, value: u32) -> Answer {
+        match step {
+            0 => self.send(),
+            1 => self.acknowledge(n),
+            2 => self.read(k, value),
+            3 => self.accept(n),
+            _ => Err(14),
+        }
     }
 
     /// Whether calls can have made it: acknowledged numbers were sent, and none is past 2^62 - 1.
@@ -69,7 +84,7 @@ impl Ends {
         self.largest.is_none_or(|m| m < END)
     }
 
-    fn send(&mut self) -> Said {
+    fn send(&mut self) -> Answer {
         let (n, acked) = (self.next, self.acked.unwrap_or(0));
         if !self.can_send() || n >= END {
             return Err(14);
@@ -79,30 +94,30 @@ impl Ends {
         }
         let (k, value) = sent(PacketNumber::new(n, acked));
         self.next += 1;
-        Ok(format!("ok {n} {k} {value}"))
+        Ok(Said::Sent(n, k, value))
     }
 
-    fn acknowledge(&mut self, n: u64) -> Said {
+    fn acknowledge(&mut self, n: u64) -> Answer {
         if !self.can_send() || n >= self.next {
             return Err(14);
         }
         self.acked = self.acked.max(Some(n));
-        ok()
+        Ok(Said::Kept)
     }
 
-    fn read(&self, k: u64, value: u32) -> Said {
+    fn read(&self, k: u64, value: u32) -> Answer {
         if !self.can_receive() || !is_cut(k, value) {
             return Err(14);
         }
         let expected = self.largest.map_or(0, |m| m + 1);
-        Ok(format!("ok {}", held(k, value).expand(expected)))
+        Ok(Said::Read(held(k, value).expand(expected)))
     }
 
-    fn accept(&mut self, n: u64) -> Said {
+    fn accept(&mut self, n: u64) -> Answer {
         if !self.can_receive() || n >= END {
             return Err(14);
         }
         self.largest = self.largest.max(Some(n));
-        ok()
+        Ok(Said::Kept)
     }
 }

@@ -6,6 +6,7 @@ use crate::crypto::{HeaderKey, MaskKey};
 use crate::harness::differences::{
     CID_OVER_20, Decided, FORM_BIT, NUMBER_OFFSET, PLACE_PAST, SIZE_65527, VERSIONS_16, decided, settle,
 };
+use crate::harness::table::KINDS;
 use crate::harness::words::{Args, Bad, hex};
 use std::cell::Cell;
 
@@ -17,7 +18,7 @@ const MAX_VERSIONS: usize = 16;
 pub(super) const BEHIND_OFFSET: usize = 4 + 16;
 
 /// The paper's number of a refusal, by the source's text.
-fn number(e: &PacketDecodeError) -> u32 {
+pub(super) fn number(e: &PacketDecodeError) -> u32 {
     match e {
         PacketDecodeError::UnsupportedVersion { .. } => 4,
         PacketDecodeError::InvalidHeader(text) => match *text {
@@ -34,7 +35,7 @@ fn number(e: &PacketDecodeError) -> u32 {
 }
 
 /// After the split only the packet number can be cut: rule 9, whose text is rule 1's.
-fn number_after_split(e: &PacketDecodeError) -> u32 {
+pub(super) fn number_after_split(e: &PacketDecodeError) -> u32 {
     if number(e) == 1 { 9 } else { number(e) }
 }
 
@@ -49,10 +50,10 @@ fn refusal(e: &PacketDecodeError) -> String {
 }
 
 /// What reading is told: CIDLEN GREASE VERSIONS.
-struct Reader {
-    local: usize,
-    grease: bool,
-    versions: Vec<u32>,
+pub(super) struct Reader {
+    pub local: usize,
+    pub grease: bool,
+    pub versions: Vec<u32>,
 }
 
 impl Reader {
@@ -61,7 +62,7 @@ impl Reader {
     }
 
     /// Document 01's answer to an argument outside its rule.
-    fn outside(&self, datagram: &[u8], answer: &str) -> Option<Decided> {
+    pub(super) fn outside(&self, datagram: &[u8], answer: &str) -> Option<Decided> {
         let name = if datagram.len() > MAX_DATAGRAM {
             SIZE_65527
         } else if self.local > MAX_CID_SIZE {
@@ -85,7 +86,7 @@ impl Reader {
         Ok(PartialDecode { plain_header, buf })
     }
 
-    fn split(&self, datagram: BytesMut) -> Result<(PartialDecode, Option<BytesMut>), PacketDecodeError> {
+    pub(super) fn split(&self, datagram: BytesMut) -> Result<(PartialDecode, Option<BytesMut>), PacketDecodeError> {
         PartialDecode::new(datagram, &self.parser(), &self.versions, self.grease)
     }
 }
@@ -202,18 +203,18 @@ fn finished(part: PartialDecode, packet: &[u8], key: &dyn HeaderKey) -> String {
 }
 
 /// A packet of any bytes, taken for one of a kind whose header ends at any offset.
-struct Taken {
-    kind: &'static str,
-    offset: u64,
-    packet: Vec<u8>,
+pub(super) struct Taken {
+    pub kind: &'static str,
+    pub offset: u64,
+    pub packet: Vec<u8>,
 }
 
 impl Taken {
     /// KIND OFFSET, and what is behind them
     fn new<T>(a: &mut Args, behind: impl FnOnce(&mut Args) -> Result<T, Bad>) -> Result<(Self, T), Bad> {
         let word = a.word()?;
-        let kind = ["initial", "0rtt", "handshake", "retry", "short", "vneg"].into_iter().find(|kind| *kind == word);
-        let (kind, offset, behind) = (kind.ok_or(Bad)?, a.num()?, behind(a)?);
+        let (kind, _) = KINDS.into_iter().find(|kind| kind.0 == word).ok_or(Bad)?;
+        let (offset, behind) = (a.num()?, behind(a)?);
         Ok((Self { kind, offset, packet: a.bytes()? }, behind))
     }
 
@@ -221,7 +222,7 @@ impl Taken {
         !matches!(self.kind, "retry" | "vneg")
     }
 
-    fn partial(&self) -> PartialDecode {
+    pub(super) fn partial(&self) -> PartialDecode {
         let (dst_cid, src_cid) = (ConnectionId::new(&[]), ConnectionId::new(&[]));
         let (len, version) = (0, 1);
         let plain_header = match self.kind {
@@ -240,8 +241,7 @@ impl Taken {
     }
 
     /// Where document 01 decides before the first byte is looked at; what it answers where there is no number.
-    fn decided(&self, tail: &str, unnumbered: String) -> Option<Decided> {
-        let no = |n: u32| format!("no {n}{tail}");
+    pub(super) fn decided(&self, no: impl Fn(u32) -> String, unnumbered: String) -> Option<Decided> {
         if self.packet.len() > MAX_DATAGRAM {
             decided(SIZE_65527, no(14))
         } else if !self.has_number() {
@@ -256,7 +256,7 @@ impl Taken {
     }
 
     /// Whether finish gets as far as the first byte, and 0x80 in it is not as the kind has it.
-    fn has_other_form(&self) -> bool {
+    pub(super) fn has_other_form(&self) -> bool {
         let reaches = self.packet.len() as u64 >= self.offset + BEHIND_OFFSET as u64;
         self.has_number() && reaches && (self.packet[0] & LONG_HEADER_FORM == 0) != (self.kind == "short")
     }
@@ -265,10 +265,10 @@ impl Taken {
 /// finish KIND OFFSET MASK B -> ok FINISHED | no N B
 pub(crate) fn finish(a: &mut Args, out: &mut String) -> Result<(), Bad> {
     let (taken, mask) = Taken::new(a, |a| a.array())?;
-    let tail = format!(" {}", hex(&taken.packet));
+    let no = |n: u32| format!("no {n} {}", hex(&taken.packet));
     let paper = taken
-        .decided(&tail, format!("ok {} - - - - - -", taken.kind))
-        .or_else(|| if taken.has_other_form() { decided(FORM_BIT, format!("no 14{tail}")) } else { None });
+        .decided(no, format!("ok {} - - - - - -", taken.kind))
+        .or_else(|| if taken.has_other_form() { decided(FORM_BIT, no(14)) } else { None });
     settle(out, paper, || finished(taken.partial(), &taken.packet, &MaskKey(mask)));
     Ok(())
 }
@@ -286,16 +286,20 @@ impl HeaderKey for Noting {
     }
 }
 
+/// The sample's start and length, by the offset that finish gives the header key; a refusal's number.
+pub(super) fn sampled(taken: &Taken) -> Result<Option<(usize, usize)>, u32> {
+    let key = Noting::default();
+    let finished = taken.partial().finish(Some(&key));
+    finished.map(|_| key.0.get().map(|offset| (offset + 4, key.sample_size()))).map_err(|e| number_after_split(&e))
+}
+
 /// sample KIND OFFSET B -> ok START LEN | none | no N: by the offset that finish gives the header key, four bytes on
 pub(crate) fn sample(a: &mut Args, out: &mut String) -> Result<(), Bad> {
     let (taken, ()) = Taken::new(a, |_| Ok(()))?;
-    settle(out, taken.decided("", "none".into()), || {
-        let key = Noting::default();
-        match (taken.partial().finish(Some(&key)), key.0.get()) {
-            (Err(e), _) => format!("no {}", number_after_split(&e)),
-            (Ok(_), Some(offset)) => format!("ok {} {}", offset + 4, key.sample_size()),
-            (Ok(_), None) => "none".into(),
-        }
+    settle(out, taken.decided(|n| format!("no {n}"), "none".into()), || match sampled(&taken) {
+        Err(n) => format!("no {n}"),
+        Ok(Some((start, len))) => format!("ok {start} {len}"),
+        Ok(None) => "none".into(),
     });
     Ok(())
 }

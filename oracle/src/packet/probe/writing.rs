@@ -13,7 +13,7 @@ use std::cell::RefCell;
 use std::panic::{AssertUnwindSafe, catch_unwind, resume_unwind};
 
 /// A refusal of document 01, and the difference's name.
-type Refused = (u32, &'static str);
+pub(super) type Refused = (u32, &'static str);
 
 /// A connection id of any length that a byte holds.
 fn cid(a: &mut Args) -> Result<Vec<u8>, Bad> {
@@ -27,16 +27,16 @@ fn version(a: &mut Args) -> Result<u32, Bad> {
 
 /// A header as the words name it, in the order of table.rs; the Rust does not have all of them.
 #[derive(Default)]
-struct Words {
-    kind: String,
-    version: u32,
-    spin: bool,
-    key_phase: bool,
-    random: u8,
-    number: Option<(u64, u32)>,
-    dst: Vec<u8>,
-    src: Vec<u8>,
-    token: Vec<u8>,
+pub(super) struct Words {
+    pub kind: String,
+    pub version: u32,
+    pub spin: bool,
+    pub key_phase: bool,
+    pub random: u8,
+    pub number: Option<(u64, u32)>,
+    pub dst: Vec<u8>,
+    pub src: Vec<u8>,
+    pub token: Vec<u8>,
 }
 
 impl Words {
@@ -83,7 +83,7 @@ impl Words {
         }
     }
 
-    fn encode(&self) -> (PartialEncode, Vec<u8>) {
+    pub(super) fn encode(&self) -> (PartialEncode, Vec<u8>) {
         let mut w = Vec::new();
         let p = self.header().encode(&mut w);
         assert_eq!((p.start, p.header_len), (0, w.len()));
@@ -91,7 +91,7 @@ impl Words {
     }
 
     /// Where document 01 refuses to write the header, whatever the room.
-    fn refused(&self) -> Option<Refused> {
+    pub(super) fn refused(&self) -> Option<Refused> {
         let number = self.number.and_then(|(k, value)| outside(k, value, String::new()));
         if self.dst.len().max(self.src.len()) > MAX_CID_SIZE {
             Some((14, CID_OVER_20))
@@ -122,11 +122,11 @@ pub(crate) fn henc(a: &mut Args, out: &mut String) -> Result<(), Bad> {
 }
 
 /// What the steps after encode are told: HEADERLEN HASNUMBER NUMBERLEN HASLENGTH, and the packet B.
-struct Step {
-    header_len: usize,
-    number: Option<usize>,
-    has_length: bool,
-    packet: Vec<u8>,
+pub(super) struct Step {
+    pub header_len: usize,
+    pub number: Option<usize>,
+    pub has_length: bool,
+    pub packet: Vec<u8>,
 }
 
 impl Step {
@@ -141,7 +141,7 @@ impl Step {
     }
 
     /// Where document 01's tests of the header refuse.
-    fn refused(&self) -> Option<Refused> {
+    pub(super) fn refused(&self) -> Option<Refused> {
         let k = self.number.unwrap_or(0);
         let length = if self.has_length { 2 } else { 0 };
         if self.packet.len() > MAX_DATAGRAM {
@@ -156,13 +156,13 @@ impl Step {
     }
 
     /// The Length step's own: a Length of two bytes, and a number behind it.
-    fn length_refused(&self) -> Option<Refused> {
+    pub(super) fn length_refused(&self) -> Option<Refused> {
         let len = self.packet.len() - self.header_len + self.number.unwrap_or(0);
         if self.has_length && len >= 1 << 14 { Some((14, LENGTH_16384)) } else { None }
     }
 
     /// The mask step's own: rule 8, then the form bit.
-    fn mask_refused(&self) -> Option<Refused> {
+    pub(super) fn mask_refused(&self) -> Option<Refused> {
         let offset = self.header_len - self.number?;
         if self.packet.len() < offset + BEHIND_OFFSET {
             Some((8, SHORT_OF_SAMPLE))
@@ -181,7 +181,7 @@ impl Step {
         b
     }
 
-    fn partial(&self, write_len: bool) -> PartialEncode {
+    pub(super) fn partial(&self, write_len: bool) -> PartialEncode {
         PartialEncode { start: 0, header_len: self.header_len, pn: self.number.map(|k| (k, write_len)) }
     }
 }
@@ -196,7 +196,7 @@ impl PacketKey for Kept {
 }
 
 /// The packet after the Length step alone: with a number, what encryption finds; without, what there is at the end.
-fn after_length(step: &Step) -> Vec<u8> {
+pub(super) fn after_length(step: &Step) -> Vec<u8> {
     let (kept, mut b) = (Kept::default(), step.packet.clone());
     let partial = step.partial(step.has_length);
     let ended = catch_unwind(AssertUnwindSafe(|| partial.finish(&mut b, &MaskKey([0; 5]), Some((0, &kept)))));

@@ -1,0 +1,99 @@
+"""The C surface: every function's record."""
+from answers import size
+from answers.replay_frame import MALFORMED, TYPES, WHOLE, type_name
+
+KINDS = ['initial', '0rtt', 'handshake', 'retry', 'short', 'vneg']
+NUMBERED = ['initial', '0rtt', 'handshake', 'short']
+LENGTHS = ['1 byte', '2 bytes', '3 bytes', '4 bytes']
+SIZE, PAST, OFFSET, FORM = ' # size-65527', ' # place-past-the-slice', ' # number-offset', ' # form-bit'
+STEPS = ['send', 'acknowledge', 'read', 'accept']
+
+CLASSES = {
+    'gsplit': [kind + where for kind in KINDS for where in ('', ', later')] + ['end', '4 with both connection ids']
+    + [f'no {n}' for n in (1, 2, 3, 4, 5, 6, 7, 14)] + ['no 14' + mark for mark in (SIZE, ' # cid-over-20', ' # versions-16')],
+    'gsample': ['sample', 'none', 'none' + PAST, 'no 8', 'no 8' + OFFSET, 'no 14', 'no 14' + OFFSET, 'no 14' + SIZE],
+    'gunmask': [f'{kind}, {length}' for kind in NUMBERED for length in LENGTHS]
+    + [f'{kind}, reserved {bits}' for kind in NUMBERED for bits in ('clear', 'set')] + [f'short, key phase {phase}' for phase in (0, 1)]
+    + ['retry', 'vneg', 'retry' + PAST, 'vneg' + PAST, 'no 8', 'no 8' + OFFSET, 'no 14', 'no 14' + OFFSET, 'no 14' + FORM, 'no 14' + SIZE],
+    'gframe': [type_name(ty) for ty in TYPES] + [f'{type_name(ty)} no 10' for ty in TYPES if ty not in WHOLE]
+    + [f'{type_name(ty)} no 12' for ty in MALFORMED] + ['end', 'later', 'no 11', 'no type, no 10', 'no 13', 'no 14' + SIZE],
+    'gnumber': [f'send, {length}' for length in LENGTHS] + ['send no 14', 'send no 16', 'read', 'read no 14', 'no step', 'no flag']
+    + [f'{step}{said}' for step in ('acknowledge', 'accept') for said in (', larger', ', no larger', ' no 14')],
+    'gheader': [f'{kind}, {length}' for kind in NUMBERED for length in LENGTHS] + ['retry', 'vneg', 'room left', 'no room left', 'no 14']
+    + ['no 14 # ' + mark for mark in ('cid-over-20', 'cut-rule', 'u24-fourth-byte', 'length-16384')] + ['no 14' + SIZE, 'no 15 # short-buffer'],
+    'gmask': [f'{form}, {length}' for form in ('long', 'short') for length in LENGTHS] + ['no number', 'no 14']
+    + ['no 14 # ' + mark for mark in ('short-of-header', 'header-tests')] + ['no 14' + SIZE, 'no 14' + FORM, 'no 8 # short-of-sample'],
+}
+
+
+def gsplit(q, a):
+    if a[0] != '0':
+        return [f'no {a[0]}'] + (['4 with both connection ids'] if a[0] == '4' and '-' not in a[-2:] else [])
+    return ['end'] if a[1] == '6' else [KINDS[int(a[1])] + (', later' if a[5] != '0' else '')]
+
+
+def gsample(q, a):
+    return [f'no {a[0]}' if a[0] != '0' else 'sample' if a[2] != '0' else 'none']
+
+
+def gunmask(q, a):
+    if a[0] != '0':
+        return [f'no {a[0]}']
+    kind = KINDS[int(q[1])]
+    if kind not in NUMBERED:
+        return [kind]
+    said = [f'{kind}, {size(int(a[4]))}', f'{kind}, reserved {"clear" if a[1] == "1" else "set"}']
+    return said + ([f'short, key phase {a[2]}'] if kind == 'short' else [])
+
+
+def gframe(q, a):
+    refusal, found, has_type = a[:3]
+    if found == '1':
+        return [type_name(int(a[5]))] + (['later'] if a[3] != '0' else [])
+    if refusal in ('10', '12'):
+        return [f'{type_name(int(a[5])) if has_type == "1" else "no type,"} no {refusal}']
+    return ['end' if refusal == '0' else f'no {refusal}']
+
+
+def gnumber(q, a):
+    ends = q[5].split(',')
+    if int(q[1]) > 3:
+        return ['no step']
+    if max(map(int, ends[3:])) > 1:
+        return ['no flag']
+    step = STEPS[int(q[1])]
+    if a[0] != '0':
+        return [f'{step} no {a[0]}']
+    if step == 'send':
+        return [f'send, {size(int(a[2]))}']
+    if step == 'read':
+        return ['read']
+    has, largest = (ends[3], ends[1]) if step == 'acknowledge' else (ends[4], ends[2])
+    return [f'{step}{", larger" if has == "0" or int(q[2]) > int(largest) else ", no larger"}']
+
+
+def gheader(q, a):
+    if a[0] != '0':
+        return [f'no {a[0]}']
+    kind = KINDS[int(q[1])]
+    return [f'{kind}, {size(int(a[3]))}' if kind in NUMBERED else kind, 'room left' if len(a[4]) > 2 * int(a[2]) else 'no room left']
+
+
+def gmask(q, a):
+    """By the number's length that byte 0 has before it is masked."""
+    if a[0] != '0':
+        return [f'no {a[0]}']
+    return ['no number' if q[2] == '0' else f'{"long" if q[3] == "1" else "short"}, {LENGTHS[int(q[5][1], 16) % 4]}']
+
+
+def marked(classes):
+    """A mark belongs to all of an answer's classes."""
+    def of(question, answer, mark):
+        found = classes(question.split(' '), answer.split(' '))
+        return [f'{name} # {mark}' for name in found] if mark else found
+    return of
+
+
+DETAIL = {}
+MANY = {op: marked(classes) for op, classes in
+        dict(gsplit=gsplit, gsample=gsample, gunmask=gunmask, gframe=gframe, gnumber=gnumber, gheader=gheader, gmask=gmask).items()}
