@@ -5,7 +5,7 @@ use Rattle.coding.specs.Words.{Answer}
 use Rattle.coding.proofs.Numbers.{refusalOf, refusal-back}
 use Rattle.coding.proofs.Inverse.{one-by, answered}
 use Rattle.ack.specs.Step.{Step, range, end, refused, Taken}
-use Rattle.ack.specs.Said.{scannedOf, stepOf, takenOf}
+use Rattle.ack.specs.Said.{scannedOf, rangeStepOf, takenOf}
 use Rattle.ack.specs.declared.Scanned.{Scanned}
 use Rattle.ack.specs.declared.Scanned.the-variants as scanned
 use Rattle.ack.specs.declared.AckStep.{AckStep}
@@ -26,14 +26,14 @@ unsaid (range r) = ack.Range (record { 0 = r .smallest }) (record { 0 = r .large
 unsaid end = ack.End
 unsaid (refused k) = ack.Refused (refusalOf k)
 
-pub step-back : (a : AckStep) → unsaid (stepOf a) ≡ a
-unfolding stepOf
+pub step-back : (a : AckStep) → unsaid (rangeStepOf a) ≡ a
+unfolding rangeStepOf
 step-back (ack.Range smallest largest) = refl
 step-back ack.End = refl
 step-back (ack.Refused why) = ap ack.Refused (refusal-back why)
 
-pub step-one : (x y : AckStep) (s : Step) → stepOf x ≡ s → stepOf y ≡ s → x ≡ y
-step-one = one-by stepOf unsaid step-back
+pub step-one : (x y : AckStep) (s : Step) → rangeStepOf x ≡ s → rangeStepOf y ≡ s → x ≡ y
+step-one = one-by rangeStepOf unsaid step-back
 
 pub taken-one : (x y : AckTaken) (t : Taken) → takenOf x ≡ t → takenOf y ≡ t → x ≡ y
 unfolding takenOf

@@ -20,10 +20,10 @@ unfoldable pub roundThen : Round → (ℕ → ℕ → Answer ℕ) → Answer ℕ
 roundThen (round.To smallest next) more = more next smallest
 roundThen (round.Refused why) more = no (numberOf why)
 
-unfoldable pub stepOf : AckStep → Step
-stepOf (ack.Range smallest largest) = range (record { smallest = smallest .0; largest = largest .0 })
-stepOf ack.End = end
-stepOf (ack.Refused why) = refused (numberOf why)
+unfoldable pub rangeStepOf : AckStep → Step
+rangeStepOf (ack.Range smallest largest) = range (record { smallest = smallest .0; largest = largest .0 })
+rangeStepOf ack.End = end
+rangeStepOf (ack.Refused why) = refused (numberOf why)
 
 unfoldable pub takenOf : AckTaken → Taken
-takenOf t = record { step = stepOf (t .answer); largest = t .largest .0; next = t .next }
+takenOf t = record { step = rangeStepOf (t .answer); largest = t .largest .0; next = t .next }

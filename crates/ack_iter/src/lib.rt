@@ -5,7 +5,7 @@ use ack::AckStep;
 use ack::AckTaken;
 use shared::FullNumber;
 ghost use mathlib.Core.Path.{_≡_};
-ghost use Rattle.ack.specs.Said.{stepOf, takenOf};
+ghost use Rattle.ack.specs.Said.{rangeStepOf, takenOf};
 ghost use Rattle.ack.specs.Step.{ackStep};
 ghost use Rattle.ack_iter.specs.Iter.{taken, Rest, stepAfter};
 
@@ -42,7 +42,7 @@ impl<'a> AckIter<'a> {
 
     // The next range, largest first. A refused step, and one with no byte left, hands out no range and leaves the reader as it was.
     pub fn next(&mut self) -> AckStep
-        ensures { λ r. ⌜ (stepOf r ≡ taken (now (self .entry)) .step)
+        ensures { λ r. ⌜ (rangeStepOf r ≡ taken (now (self .entry)) .step)
             × (now (self .exit) .largest .0 ≡ taken (now (self .entry)) .largest)
             × Rest (now (self .entry) .«data») (now (self .exit) .«data») (taken (now (self .entry)) .next) ⌝ }
     {
@@ -57,7 +57,7 @@ impl<'a> AckIter<'a> {
 
 // What a reader of these blocks says after n other steps (Iterator::nth): one reader, stepped n times and once more.
 pub fn nth_range(largest: FullNumber, blocks: &[u8], n: usize) -> AckStep
-    ensures { λ r. ⌜ stepOf r ≡ stepAfter n (now (blocks .entry)) (largest .0) ⌝ }
+    ensures { λ r. ⌜ rangeStepOf r ≡ stepAfter n (now (blocks .entry)) (largest .0) ⌝ }
 {
     let mut it = AckIter::new(largest, blocks);
     let mut left = n;

@@ -5,7 +5,7 @@ use Prim.Native.Nat.{ℕ, _+_, _-_, _^_}
 use lib.Dec.{ltb}
 use Rattle.coding.specs.Words.{if_then_else_, no, ok}
 use Rattle.coding.specs.declared.refusal.Refusal.the-variants as ref
-use Rattle.ecn.specs.Counts.{saidOf, countOf}
+use Rattle.ecn.specs.Counts.{countSaid, countOf}
 use Rattle.ecn.specs.Said.{moreOf, raiseOf}
 use Rattle.ecn.specs.declared.Raise.the-variants.{Done, Refused}
 use Rattle.ecn.specs.declared.Counted.{Counted}
@@ -21,8 +21,8 @@ more-count n r e = ap (λ (m : Counted). m .count) e ∙ go (ltb n (2 ^ 62 - 1))
     go true = refl
     go false = refl
 
-pub more-said : (n : ℕ) (r : Counted) → r ≡ moreOf n → raiseOf (r .answer) ≡ saidOf n
-unfolding moreOf saidOf raiseOf if_then_else_
+pub more-said : (n : ℕ) (r : Counted) → r ≡ moreOf n → raiseOf (r .answer) ≡ countSaid n
+unfolding moreOf countSaid raiseOf if_then_else_
 more-said n r e = ap (λ (m : Counted). raiseOf (m .answer)) e ∙ go (ltb n (2 ^ 62 - 1))
   where
     made : Bool → Counted

@@ -11,8 +11,8 @@ abbrev pub zeroCounts : EcnCounts
 zeroCounts = record { ect0 = 0; ect1 = 0; ce = 0 }
 
 -- one count: what is said of it, and what it is afterwards
-unfoldable pub saidOf : ℕ → Answer Unit
-saidOf n = if ltb n (2 ^ 62 - 1) then ok tt else no 14
+unfoldable pub countSaid : ℕ → Answer Unit
+countSaid n = if ltb n (2 ^ 62 - 1) then ok tt else no 14
 
 unfoldable pub countOf : ℕ → ℕ
 countOf n = if ltb n (2 ^ 62 - 1) then n + 1 else n
@@ -25,4 +25,4 @@ countsAfter c bits =
     (record { ect0 = c .ect0; ect1 = c .ect1; ce = countOf (c .ce) }))
 
 abbrev pub saidAfter : EcnCounts → ℕ → Answer Unit
-saidAfter c bits = saidOf (cond (eqb bits 0b10) (c .ect0) (cond (eqb bits 0b01) (c .ect1) (c .ce)))
+saidAfter c bits = countSaid (cond (eqb bits 0b10) (c .ect0) (cond (eqb bits 0b01) (c .ect1) (c .ce)))

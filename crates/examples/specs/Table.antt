@@ -1,6 +1,6 @@
--- The worked examples marked P in document 01, "Bench examples", as one table. A row is a question and the reply that the
--- document gives; `answer` replies to a question by the definitions; the one statement is that `answers table` is `replies table`.
--- To add a row: write it into `table`. For a new kind of question, first a constructor of `Question` and a clause of `answer` by
+-- The worked examples marked P in document 01, "Bench examples", as one examples. A row is a question and the reply that the
+-- document gives; `answer` replies to a question by the definitions; the one statement is that `answers examples` is `replies examples`.
+-- To add a row: write it into `examples`. For a new kind of question, first a constructor of `Question` and a clause of `answer` by
 -- the definition in question, whose name goes on the `unfolding` line of proofs/Holds.antt.
 use Prim.Native.Nat.{ℕ, _+_, _^_}
 use mathlib.Core.List.{List, [], _∷_}
@@ -70,10 +70,10 @@ grown (no k) = refused k
 grown (ok n) = full n
 
 -- an ACK's largest number is its first value, and its blocks are the third
-unfoldable pub numberIn : Value → ℕ
-numberIn (num n) = n
-numberIn (place p) = 0
-numberIn none = 0
+unfoldable pub numberSaid : Value → ℕ
+numberSaid (num n) = n
+numberSaid (place p) = 0
+numberSaid none = 0
 
 unfoldable pub placeIn : Value → Place
 placeIn (num n) = record { start = 0; len = 0 }
@@ -82,7 +82,7 @@ placeIn none = record { start = 0; len = 0 }
 
 unfoldable pub ranged : List ℕ → frame.FrameOutcome → Reply
 ranged s (frame.taken t (said name values) next) =
-    ranges (stepping (length s) (partOf s (placeIn (getD values 2 none))) 0 (numberIn (getD values 0 none)))
+    ranges (stepping (length s) (partOf s (placeIn (getD values 2 none))) 0 (numberSaid (getD values 0 none)))
 ranged s (frame.refused k start t) = frameRefused k start t
 
 unfoldable pub answer : Question → Reply
@@ -102,16 +102,16 @@ infix 80 _to_
 abbrev pub _to_ : ℕ → ℕ → Step
 a to b = range (record { smallest = a; largest = b })
 
-pub record Row : Type 0 where
+pub record Example : Type 0 where
   pub asked : Question
   pub told : Reply
 
 infix 70 _gives_
-abbrev pub _gives_ : Question → Reply → Row
+abbrev pub _gives_ : Question → Reply → Example
 q gives r = record { asked = q; told = r }
 
-unfoldable pub table : List Row
-table =
+unfoldable pub examples : List Example
+examples =
     -- 25 and 4025 both read 37
     readVar (0x25 ∷ []) gives value 37 1 ∷
     readVar (0x40 ∷ 0x25 ∷ []) gives value 37 2 ∷
@@ -140,10 +140,10 @@ table =
     []
 
 -- what the definitions answer to each row's question, and what the document says: one computed test holds the two lists equal
-unfoldable pub answers : List Row → List Reply
+unfoldable pub answers : List Example → List Reply
 answers [] = []
 answers (row ∷ rows) = answer (row .asked) ∷ answers rows
 
-unfoldable pub replies : List Row → List Reply
+unfoldable pub replies : List Example → List Reply
 replies [] = []
 replies (row ∷ rows) = row .told ∷ replies rows

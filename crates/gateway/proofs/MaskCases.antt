@@ -7,7 +7,7 @@ use lib.ListN.{length, getD}
 use lib.Dec.{eqb}
 use borrow.Author.Tests.{lt-ltb, le-ltb, eq-eqb, ne-eqb}
 use Rattle.coding.specs.Words.{if_then_else_, Answer, no}
-use Rattle.protect.specs.Steps.{leftBy, readOff, Changed, Opened, finishAt, finished, done, maskAt}
+use Rattle.protect.specs.Steps.{leftBy, readOff, Changed, Opened, finishAt, finished, onlyDone, maskAt}
 use Rattle.gateway.specs.Arguments.{longKind, numberedKind, numberGiven}
 use Rattle.gateway.specs.Packets.{notOpened, unmaskRecord, inMask, unmaskAt, UnmasksPacket, maskRecord, maskFor, MasksPacket}
 use Rattle.gateway.specs.declared.records.UnmaskAnswer.{UnmaskAnswer}
@@ -71,9 +71,9 @@ module _ (headerLen numberLen hasLength : ℕ) (s mask : List ℕ) where
   mask-no e = record { says = rw e; leaves = rw e }
 
   pub mask-on : {w : Answer (List ℕ)} {said : Answer (Unit {0})} {new : List ℕ} {r : ℕ} → maskFor headerLen numberLen hasLength s mask ≡ w
-      → Changed done w s said new → r ≡ maskRecord said → MasksPacket headerLen numberLen hasLength s mask r new
+      → Changed onlyDone w s said new → r ≡ maskRecord said → MasksPacket headerLen numberLen hasLength s mask r new
   mask-on e f q =
       record {
-        says = q ∙ ap maskRecord (f .says ∙ ap (readOff done) (sym e));
+        says = q ∙ ap maskRecord (f .says ∙ ap (readOff onlyDone) (sym e));
         leaves = f .leaves ∙ ap (λ (x : Answer (List ℕ)). leftBy x s) (sym e);
       }

@@ -11,7 +11,7 @@ use Rattle.coding.specs.declared.Place.{Place}
 use Rattle.packet.specs.Header.{Header, initial, zeroRtt, handshake, retry, short, negotiate, Outcome}
 use Rattle.packet.specs.Split.{nowhere}
 use Rattle.packet.specs.Walk.{Met, atEnd, packet, refusedAt, PacketStep, packetStepAt}
-use Rattle.protect.specs.Steps.{leftBy, readOff, sampleAt, Opened, finishAt, finished, done, maskAt}
+use Rattle.protect.specs.Steps.{leftBy, readOff, sampleAt, Opened, finishAt, finished, onlyDone, maskAt}
 use Rattle.protect.specs.Steps as opened
 use Rattle.frame.specs.Table.{flag}
 use Rattle.gateway_frame.specs.Spans.{spanAt, spanOf}
@@ -171,7 +171,7 @@ pub record UnmasksPacket (kind : ℕ) (old : List ℕ) (at : ℕ) (mask : List �
   pub says : r ≡ unmaskRecord at (length old) (readOff (finished (numberedKind kind) (longKind kind) at) (unmaskAt kind old at mask))
   pub leaves : new ≡ leftBy (unmaskAt kind old at mask) old
 
--- ---- mask: the mask step, of a mask of five bytes; its answer is the refusal, 0 where it is done
+-- ---- mask: the mask step, of a mask of five bytes; its answer is the refusal, 0 where it is onlyDone
 
 abbrev pub maskRecord : Answer (Unit {0}) → ℕ
 maskRecord (no k) = k
@@ -183,5 +183,5 @@ maskFor headerLen numberLen hasLength s mask =
 
 -- mask of the packet `old` answers r and leaves `new`
 pub record MasksPacket (headerLen numberLen hasLength : ℕ) (old mask : List ℕ) (r : ℕ) (new : List ℕ) : Type 0 where
-  pub says : r ≡ maskRecord (readOff done (maskFor headerLen numberLen hasLength old mask))
+  pub says : r ≡ maskRecord (readOff onlyDone (maskFor headerLen numberLen hasLength old mask))
   pub leaves : new ≡ leftBy (maskFor headerLen numberLen hasLength old mask) old

@@ -14,7 +14,7 @@ use Rattle.coding.specs.Varint.{varAt}
 use Rattle.coding.specs.declared.Place.{Place}
 use Rattle.coding.proofs.Rules.{if-all, then-all}
 use Rattle.ack.specs.Scan.{rounds, scanAt}
-use Rattle.frame.specs.Format.{Value, num, place, none, Said, said, Field, var, orNone, atMost, bytes, rest, fixed, num64, cid, ackBlocks, const, lastButOne, inOrder, Read, done, refuse, thenRead, bytesAt, allLeftAt, cidAt, upTo, blocksAt, fieldAt, fieldsAt, bit}
+use Rattle.frame.specs.Format.{Value, num, place, none, Said, said, Field, var, orNone, atMost, bytes, rest, fixed, num64, cid, ackBlocks, const, absent, lastButOne, inOrder, Read, done, refuse, thenRead, bytesAt, allLeftAt, cidAt, upTo, blocksAt, fieldAt, fieldsAt, bit}
 use Rattle.frame.specs.Table.{Row, look, has, readRow, frameBodyAt, table, FrameOutcome, taken, refused, outcome, frameAt, ackFields}
 use Rattle.frame.specs.Walk.{WalkStep, frame, end, stepAt}
 use Rattle.gateway_frame.specs.Frames.{valueOf, frameRecord, frameFor}

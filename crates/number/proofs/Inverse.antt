@@ -6,7 +6,7 @@ use Rattle.coding.proofs.Numbers.{refusalOf, refusal-back}
 use Rattle.coding.proofs.Inverse.{one-by, answered}
 use Rattle.shared.specs.declared.kinds.CutNumber.{CutNumber}
 use Rattle.number.specs.Ends.{SoFar, none, at, Ends, Packet, Call}
-use Rattle.number.specs.Said.{madeOf, tagOf, fullOf, soFarOf, endsOf, sentOf, keptOf}
+use Rattle.number.specs.Said.{cutMadeOf, tagOf, fullOf, soFarOf, endsOf, sentOf, keptOf}
 use Rattle.number.specs.declared.CutMade.{CutMade}
 use Rattle.number.specs.declared.CutMade.the-variants as made
 use Rattle.number.specs.declared.Tagged.{Tagged}
@@ -21,11 +21,11 @@ use Rattle.number.specs.declared.ends.SendAnswer.the-variants as send
 use Rattle.number.specs.declared.ends.SpaceAnswer.{SpaceAnswer}
 use Rattle.number.specs.declared.ends.SpaceAnswer.the-variants as space
 
-pub made-one : (x y : CutMade) (g : Answer CutNumber) → madeOf x ≡ g → madeOf y ≡ g → x ≡ y
-unfolding madeOf
-made-one = one-by madeOf (answered (λ k. made.Refused (refusalOf k)) made.Cut) back
+pub made-one : (x y : CutMade) (g : Answer CutNumber) → cutMadeOf x ≡ g → cutMadeOf y ≡ g → x ≡ y
+unfolding cutMadeOf
+made-one = one-by cutMadeOf (answered (λ k. made.Refused (refusalOf k)) made.Cut) back
   where
-    back : (r : CutMade) → answered (λ k. made.Refused (refusalOf k)) made.Cut (madeOf r) ≡ r
+    back : (r : CutMade) → answered (λ k. made.Refused (refusalOf k)) made.Cut (cutMadeOf r) ≡ r
     back (made.Cut c) = refl
     back (made.Refused why) = ap made.Refused (refusal-back why)
 

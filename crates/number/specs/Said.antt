@@ -18,9 +18,9 @@ use Rattle.number.specs.declared.ends.SendAnswer.the-variants as send
 use Rattle.number.specs.declared.ends.SpaceAnswer.{SpaceAnswer}
 use Rattle.number.specs.declared.ends.SpaceAnswer.the-variants as space
 
-unfoldable pub madeOf : CutMade → Answer CutNumber
-madeOf (made.Cut c) = ok c
-madeOf (made.Refused why) = no (numberOf why)
+unfoldable pub cutMadeOf : CutMade → Answer CutNumber
+cutMadeOf (made.Cut c) = ok c
+cutMadeOf (made.Refused why) = no (numberOf why)
 
 unfoldable pub tagOf : Tagged → Answer ℕ
 tagOf (tagged.Tag t) = ok t

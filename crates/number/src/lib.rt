@@ -17,7 +17,7 @@ ghost use Rattle.coding.specs.Said.{wroteOf};
 ghost use Rattle.coding.specs.Writing.{Written, Put};
 ghost use Rattle.number.specs.Cutting.{windowOf, isCut, bytesFor, cutMade, cutTag, tagLength, cutOut, cutPut, cutRead};
 ghost use Rattle.number.specs.Expanding.{nearestTo, expanded};
-ghost use Rattle.number.specs.Said.{madeOf, tagOf, fullOf};
+ghost use Rattle.number.specs.Said.{cutMadeOf, tagOf, fullOf};
 
 // A cut number, or a refusal.
 pub enum CutMade {
@@ -79,7 +79,7 @@ fn width(range: u64) -> usize
 
 // The number's last bytes, as many as its distance from the largest acknowledged asks for.
 pub fn new(n: FullNumber, largest_acked: FullNumber) -> CutMade
-    ensures { λ r. ⌜ madeOf r ≡ cutMade (n .0) («largest_acked» .0) ⌝ }
+    ensures { λ r. ⌜ cutMadeOf r ≡ cutMade (n .0) («largest_acked» .0) ⌝ }
 {
     let number = n.0;
     let acked = largest_acked.0;
@@ -135,7 +135,7 @@ pub fn encode(c: CutNumber, buf: &mut [u8]) -> Wrote
 
 // The cut number of the first `len` of a word's four bytes.
 pub fn decode(len: usize, word: u32) -> CutMade
-    ensures { λ r. ⌜ madeOf r ≡ cutRead len (bytesBE 4 word) ⌝ }
+    ensures { λ r. ⌜ cutMadeOf r ≡ cutRead len (bytesBE 4 word) ⌝ }
 {
     match len {
         1 => CutMade::Cut(CutNumber(1, word / 0x100_0000)),

@@ -8,7 +8,7 @@ use lib.Dec.{ltb}
 use Rattle.coding.specs.Words.{if_then_else_, Answer, no, ok}
 use Rattle.coding.specs.Bytes.{bytesBE, splice}
 use Rattle.protect.specs.Tests.{numberBytes, headerTests}
-use Rattle.protect.specs.Steps.{Changed, done}
+use Rattle.protect.specs.Steps.{Changed, onlyDone}
 
 -- section 16: two bytes, with 01 on top
 unfoldable pub lengthField : ℕ → List ℕ
@@ -22,7 +22,7 @@ lengthInto headerLen k packet =
     else no 14
 
 abbrev pub PutsLength : ℕ → ℕ → List ℕ → Answer (Unit {0}) → List ℕ → Type 0
-PutsLength headerLen k packet = Changed done (lengthInto headerLen k packet) packet
+PutsLength headerLen k packet = Changed onlyDone (lengthInto headerLen k packet) packet
 
 -- the header's tests come first; a header that has no Length stays as it is
 unfoldable pub lengthSet : ℕ → Option ℕ → Bool → List ℕ → Answer (List ℕ)
@@ -31,6 +31,6 @@ lengthSet headerLen number hasLength packet =
     (if hasLength then lengthInto headerLen (numberBytes number) packet else ok packet)
     else no 14
 
--- the answer is only that it is done
+-- the answer is only that it is onlyDone
 abbrev pub SetsLength : ℕ → Option ℕ → Bool → List ℕ → Answer (Unit {0}) → List ℕ → Type 0
-SetsLength headerLen number hasLength packet = Changed done (lengthSet headerLen number hasLength packet) packet
+SetsLength headerLen number hasLength packet = Changed onlyDone (lengthSet headerLen number hasLength packet) packet

@@ -22,7 +22,7 @@ use Rattle.coding.proofs.Laws.{Octets, octets-drop, whole, fixed-some}
 use Rattle.shared.specs.FirstByte.{longHeaderForm, longReservedBits, shortReservedBits, keyPhaseBit}
 use Rattle.shared.specs.declared.kinds.CutNumber.{CutNumber}
 use Rattle.number.specs.Cutting.{tagLength, firstCut, cutRead}
-use Rattle.number.specs.Said.{madeOf}
+use Rattle.number.specs.Said.{cutMadeOf}
 use Rattle.number.specs.declared.CutMade.{CutMade}
 use Rattle.number.specs.declared.CutMade.the-variants as made
 use Rattle.number.proofs.Cuts.{read-some}
@@ -74,16 +74,16 @@ first-masked long mask (suc at) n (b ∷ l) h k = refl
 -- ---- finish
 
 -- the length that a first byte has is one of the four: its number is never refused
-module _ (r : CutMade) (len first : ℕ) (bs : List ℕ) (el : len ≡ tagLength first) (e : madeOf r ≡ cutRead len bs) where
-  made-is : madeOf r ≡ ok (firstCut (tagLength first) bs)
+module _ (r : CutMade) (len first : ℕ) (bs : List ℕ) (el : len ≡ tagLength first) (e : cutMadeOf r ≡ cutRead len bs) where
+  made-is : cutMadeOf r ≡ ok (firstCut (tagLength first) bs)
   made-is = e ∙ rw el (sym (read-some (tagLength first) bs (omega arith) (omega arith)))
 
   pub decoded : (number : CutNumber) → r ≡ made.Cut number → number ≡ firstCut (tagLength first) bs
-  unfolding madeOf
+  unfolding cutMadeOf
   decoded number q = let s : ok number ≡ ok (firstCut (tagLength first) bs) = rw q at made-is in cc
 
   pub not-refused : (why : Refusal) → r ≡ made.Refused why → ⊥
-  unfolding madeOf
+  unfolding cutMadeOf
   not-refused why q =
       let s : no (numberOf why) ≡ ok (firstCut (tagLength first) bs) = rw q at made-is in
       let z : _≡_ {A = ℕ} 0 1 = cc in

@@ -98,10 +98,10 @@ headerPlace at number = record { start = 0; len = at + numberBytes number }
 abbrev pub payloadPlace : ℕ → Option ℕ → ℕ → Place
 payloadPlace at number len = record { start = at + numberBytes number; len = len - (at + numberBytes number) }
 
--- ---- the mask step, whose answer is only that it is done; a header with a number is long where it has a Length
+-- ---- the mask step, whose answer is only that it is onlyDone; a header with a number is long where it has a Length
 
-abbrev pub done : List ℕ → Unit {0}
-done packet = tt
+abbrev pub onlyDone : List ℕ → Unit {0}
+onlyDone packet = tt
 
 unfoldable pub protectAt : Bool → List ℕ → ℕ → List ℕ → Answer (List ℕ)
 protectAt isLong packet at mask =
@@ -110,9 +110,9 @@ protectAt isLong packet at mask =
     else no 8
 
 abbrev pub Protects : Bool → List ℕ → ℕ → List ℕ → Answer (Unit {0}) → List ℕ → Type 0
-Protects isLong packet at mask = Changed done (protectAt isLong packet at mask) packet
+Protects isLong packet at mask = Changed onlyDone (protectAt isLong packet at mask) packet
 
--- where there is no number, nothing is done
+-- where there is no number, nothing is onlyDone
 unfoldable pub maskNumber : Option ℕ → Bool → ℕ → List ℕ → List ℕ → Answer (List ℕ)
 maskNumber none hasLength headerLen packet mask = ok packet
 maskNumber (some k) hasLength headerLen packet mask = protectAt hasLength packet (headerLen - k) mask
@@ -122,4 +122,4 @@ maskAt headerLen number hasLength packet mask =
     if headerTests headerLen number hasLength (length packet) then maskNumber number hasLength headerLen packet mask else no 14
 
 abbrev pub Masks : ℕ → Option ℕ → Bool → List ℕ → List ℕ → Answer (Unit {0}) → List ℕ → Type 0
-Masks headerLen number hasLength packet mask = Changed done (maskAt headerLen number hasLength packet mask) packet
+Masks headerLen number hasLength packet mask = Changed onlyDone (maskAt headerLen number hasLength packet mask) packet

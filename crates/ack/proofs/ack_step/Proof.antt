@@ -2,7 +2,7 @@ use native.Mathlib.Omega.{arith}
 use denote.Ref.{now}
 use Rattle.coding.proofs.Rules.{steps}
 use Rattle.ack.specs.Step.{ackStep}
-use Rattle.ack.specs.Said.{stepOf, takenOf}
+use Rattle.ack.specs.Said.{rangeStepOf, takenOf}
 use Rattle.ack.proofs.Laws.{var-small}
 use borrow.Author.Needs.{needs}
 use Rattle.ack.proofs.ack_step.Statement.{statement}
@@ -23,7 +23,7 @@ unfolding ackStep
 returns-2 c = search steps depth 40 fits 4000
 
 returns-3 : tie.Need-returns-3
-unfolding ackStep takenOf stepOf
+unfolding ackStep takenOf rangeStepOf
 returns-3 c = search steps depth 40 fits 4000
 
 get-var-requires : tie.Need-get-var-requires
@@ -50,7 +50,7 @@ unfolding ackStep
 returns-5 c = search steps depth 40 fits 4000
 
 returns-6 : tie.Need-returns-6
-unfolding ackStep takenOf stepOf
+unfolding ackStep takenOf rangeStepOf
 returns-6 c = search steps depth 40 fits 4000
 
 get-var-requires-2 : tie.Need-get-var-requires-2
@@ -96,7 +96,7 @@ sub-t24 : tie.Need-sub-t24
 sub-t24 c = search needs
 
 returns-10 : tie.Need-returns-10
-unfolding ackStep takenOf stepOf
+unfolding ackStep takenOf rangeStepOf
 returns-10 c = search steps depth 40 fits 4000
 
 pub ack-step-spec : {M : Type 1} → statement M

@@ -1,11 +1,11 @@
 use mathlib.Core.Path.{refl}
 use Rattle.ack.specs.Step.{unmoved}
-use Rattle.ack.specs.Said.{stepOf, takenOf}
+use Rattle.ack.specs.Said.{rangeStepOf, takenOf}
 use Rattle.ack.proofs.refused.Statement.{statement}
 use Rattle.ack.proofs.refused.Tie as tie
 
 returns : tie.Need-returns
-unfolding takenOf stepOf unmoved
+unfolding takenOf rangeStepOf unmoved
 returns c = refl
 
 pub refused-spec : {M : Type 1} → statement M

@@ -53,7 +53,7 @@ use denote.Exit.{yes}
 use Rattle.shared.specs.declared.kinds.FullNumber.{FullNumber}
 use Rattle.shared.proofs.kinds.FullNumber as F
 use Rattle.shared.proofs.kinds.FullNumber.Laws as F′
-use Rattle.ack.specs.Said.{stepOf}
+use Rattle.ack.specs.Said.{rangeStepOf}
 use Rattle.ack.specs.Step.{Step, ackStep}
 use Rattle.ack.specs.declared.AckStep.{AckStep}
 use Rattle.ack.proofs.AckStep as N
@@ -156,7 +156,7 @@ module _ {M : Type 1} (𝓤 : URA M) (H : Heap 𝓤) (A : Atoms 𝓤) (W : Given
   abbrev Own : Fml
   Own = ShrSlice (named 0) κ u8 .own s (v ∷ [])
 
-  exits : Is F.the-row n (F′.lowered n ∷ []) → k < 2 ^ 64 → (t : AckStep) (u : Val) → stepOf t ≡ Said → ent 𝓤 (⋆ 𝓤 H A (‵ (N.the-row .own t (u ∷ [])) ∷ ‵ (flft κ q) ∷ ‵ Own ∷ [])) (Post u)
+  exits : Is F.the-row n (F′.lowered n ∷ []) → k < 2 ^ 64 → (t : AckStep) (u : Val) → rangeStepOf t ≡ Said → ent 𝓤 (⋆ 𝓤 H A (‵ (N.the-row .own t (u ∷ [])) ∷ ‵ (flft κ q) ∷ ‵ Own ∷ [])) (Post u)
   exits g gk t u e =
       qed W (‵ (N.the-row .own t (u ∷ [])) ∷ ‵ (flft κ q) ∷ ‵ Own ∷ []) ∵
       suffices ! _ (ends-at 𝓤 H A nth-range.ended stayed (nth-range.clauses 𝓤 H A at-mem run) W (((κ, tt), (q, tt), tt, (n, (s, (k, tt))), at), tt) u t (tt, (tt, (tt, tt))) (tt, (tt, (tt, tt)))) $ says ! e $
@@ -198,10 +198,10 @@ module _ {M : Type 1} (𝓤 : URA M) (H : Heap 𝓤) (A : Atoms 𝓤) (W : Given
 
   -- what `next` says of its answer t and of the reader z that it leaves
   abbrev Stepped : AckIter → AckStep → AckIter → Type 0
-  Stepped r t z = (stepOf t ≡ taken r .step) × (z .largest .0 ≡ taken r .largest) × Rest (r .«data») (z .«data») (taken r .next)
+  Stepped r t z = (rangeStepOf t ≡ taken r .step) × (z .largest .0 ≡ taken r .largest) × Rest (r .«data») (z .«data») (taken r .next)
 
   -- the last step's answer, and the reader after one of the others
-  answered : (x : Left Said) (t : AckStep) (z : AckIter) → x .m ≤ 0 → Stepped (x .it) t z → stepOf t ≡ Said
+  answered : (x : Left Said) (t : AckStep) (z : AckIter) → x .m ≤ 0 → Stepped (x .it) t z → rangeStepOf t ≡ Said
   answered x t z h e = e .0 ∙ at-zero (x .m) (now (x .it .«data»)) (x .it .largest .0) Said h (x .same)
 
   onward : (x : Left Said) (t : AckStep) (z : AckIter) → 0 < x .m → Stepped (x .it) t z → Left Said

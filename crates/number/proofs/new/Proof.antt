@@ -1,18 +1,18 @@
 use Prim.Native.Nat.{_<_}
 use native.Mathlib.Omega.{arith}
 use native.Mathlib.Nat.{mod-lt}
-use Rattle.number.specs.Said.{madeOf}
+use Rattle.number.specs.Said.{cutMadeOf}
 use Rattle.number.proofs.Cuts.{made-high, made-below, made-far, made-cut, made-window}
 use borrow.Author.Needs.{needs}
 use Rattle.number.proofs.new.Statement.{statement}
 use Rattle.number.proofs.new.Tie as tie
 
 returns : tie.Need-returns
-unfolding madeOf
+unfolding cutMadeOf
 returns c = made-high _ _ (c .if1 .taken)
 
 returns-2 : tie.Need-returns-2
-unfolding madeOf
+unfolding cutMadeOf
 returns-2 c = made-below _ _ (c .before .if1 .left) (c .if2 .taken)
 
 mul-width : tie.Need-mul-width
@@ -22,7 +22,7 @@ width-requires : tie.Need-width-requires
 width-requires c κs = search needs
 
 returns-3 : tie.Need-returns-3
-unfolding madeOf
+unfolding cutMadeOf
 returns-3 c = made-far _ _ (c .before .before .before .if1 .left) (c .before .before .if2 .left) _ (c .before .width .ensures) (c .if3 .taken)
 
 window-requires : tie.Need-window-requires
@@ -40,7 +40,7 @@ cast-t13 c =
     omega (arith, w, c .window .ensures, mod-lt (c .before .before .before .before .before .args .n .0) p)
 
 returns-4 : tie.Need-returns-4
-unfolding madeOf
+unfolding cutMadeOf
 returns-4 c =
     rw (c .window .ensures) (made-cut _ _ (c .before .before .before .before .if1 .left) (c .before .before .before .if2 .left) _ (c .before .before .width .ensures) (c .before .if3 .left))
 

@@ -3,7 +3,7 @@ use mathlib.Core.Path.{_≡_, refl, sym, _∙_}
 use native.Mathlib.Omega.{arith}
 use borrow.Author.Needs.{needs}
 use lib.ListN.{length, drop}
-use Rattle.number.specs.Said.{madeOf}
+use Rattle.number.specs.Said.{cutMadeOf}
 use Rattle.number.proofs.Cuts.{cut-is}
 use Rattle.timed.specs.Timed.{gatheredFrom, gathered, cutSaid, cutsOf}
 use Rattle.timed.proofs.Laws.{none, stops, goes-on}
@@ -37,13 +37,13 @@ cast-mixed : tie.Need-cast-mixed Inv-loop μ-loop
 cast-mixed c = search needs
 
 mul-mixed : tie.Need-mul-mixed Inv-loop μ-loop
-unfolding madeOf
+unfolding cutMadeOf
 mul-mixed c =
     let k = cut-is _ _ _ (sym (rw (c .before .before .c .given .1) at (c .before .before .before .before .new .ensures))) .fit .high in
     omega arith
 
 add-mixed : tie.Need-add-mixed Inv-loop μ-loop
-unfolding madeOf
+unfolding cutMadeOf
 add-mixed c =
     let k = cut-is _ _ _ (sym (rw (c .before .before .c .given .1) at (c .before .before .before .before .new .ensures))) .fit .high in
     omega arith
@@ -55,7 +55,7 @@ number-requires : tie.Need-number-requires Inv-loop μ-loop
 number-requires c κs = search needs
 
 returns : tie.Need-returns Inv-loop μ-loop
-unfolding cutSaid madeOf
+unfolding cutSaid cutMadeOf
 returns c =
     let g = c .before .before .before .before in
     let l = g .before .before in
@@ -69,7 +69,7 @@ loop-less : tie.Need-loop-less Inv-loop μ-loop
 loop-less c = search needs
 
 loop-again : tie.Need-loop-again Inv-loop μ-loop
-unfolding cutSaid madeOf
+unfolding cutSaid cutMadeOf
 loop-again c =
     let g = c .before .before .before .before in
     let l = g .before .before in

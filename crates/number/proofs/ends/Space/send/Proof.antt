@@ -5,7 +5,7 @@ use native.Mathlib.Omega.{arith}
 use mathlib.Core.Path.{sym, ap, _∙_}
 use Rattle.number.specs.Cutting.{cutMade}
 use Rattle.number.specs.Ends.{sendWith}
-use Rattle.number.specs.Said.{madeOf, sentOf}
+use Rattle.number.specs.Said.{cutMadeOf, sentOf}
 use Rattle.number.proofs.Cuts.{cut-is}
 use Rattle.number.proofs.Calls.{send-14, send-on}
 use borrow.Author.Needs.{needs}
@@ -29,7 +29,7 @@ enum-known-cut : tie.Need-enum-known-cut
 enum-known-cut c = search needs
 
 add-t13 : tie.Need-add-t13
-unfolding madeOf
+unfolding cutMadeOf
 add-t13 c =
     let s = c .before .before .before .before .before .before .before .before .before .args .self in
     let m = rw (c .before .before .cut .given .1) at (c .before .before .before .before .new .ensures) in
@@ -39,13 +39,13 @@ enum-known-why : tie.Need-enum-known-why
 enum-known-why c = search needs
 
 returns-2 : tie.Need-returns-2
-unfolding madeOf sendWith sentOf
+unfolding cutMadeOf sendWith sentOf
 returns-2 c =
     let m = rw (c .before .before .cut .given .1) at (c .before .before .before .before .new .ensures) in
     send-on _ (ok (c .before .before .cut .given .0 .0)) (sym (c .before .before .before .before .before .before .before .before .send-end .ensures) ∙ not-false _ (c .before .before .before .before .before .before .before .if1 .left)) (m ∙ ap (cutMade _) (c .before .before .before .before .before .base .ensures))
 
 returns-3 : tie.Need-returns-3
-unfolding madeOf sendWith sentOf
+unfolding cutMadeOf sendWith sentOf
 returns-3 c =
     let m = rw (c .before .why .given .1) at (c .before .before .before .new .ensures) in
     send-on _ (no (numberOf (c .before .why .given .0 .0))) (sym (c .before .before .before .before .before .before .before .send-end .ensures) ∙ not-false _ (c .before .before .before .before .before .before .if1 .left)) (m ∙ ap (cutMade _) (c .before .before .before .before .base .ensures))
