@@ -1,4 +1,4 @@
--- What is written is read back, wherever it stands. Assumes nothing.
+-- What is written is read back, wherever it stands.
 use mathlib.Core.Path.{_≡_, refl, ap, _∙_}
 use mathlib.Core.List.{List, _∷_, _++_, append-assoc}
 use Prim.Native.Nat.{ℕ, zero, suc, _+_, _-_, _*_, _/_, _%_, _^_, _≤_, _<_}

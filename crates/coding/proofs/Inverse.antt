@@ -1,4 +1,4 @@
--- Each map from the code's answers to the paper's words has an inverse: what is said settles the answer. Assumes nothing.
+-- Each map from the code's answers to the paper's words has an inverse: what is said settles the answer.
 use mathlib.Core.Path.{_≡_, refl, sym, ap, _∙_}
 use Prim.Native.Nat.{ℕ}
 use Rattle.coding.specs.Words.{Got, cut, got, Answer, no, ok}

@@ -1,4 +1,4 @@
--- Laws of the definitions, for this crate's proofs and those above it. Assumes nothing.
+-- Laws of the definitions, for this crate's proofs and those above it.
 use mathlib.Core.Path.{_≡_, refl, sym, ap}
 use mathlib.Core.List.{List, [], _∷_, _++_, append-assoc}
 use mathlib.Core.Bool.{Bool, true, false}

@@ -1,4 +1,4 @@
--- A refusal's number tells it apart from all others. Assumes nothing.
+-- A refusal's number tells it apart from all others.
 use mathlib.Core.Path.{_≡_, refl, sym, ap, _∙_}
 use Prim.Native.Nat.{ℕ}
 use mathlib.Core.Bool.{cond}

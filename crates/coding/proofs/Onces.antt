@@ -1,4 +1,4 @@
--- Only one answer, and only one content of a lent buffer, meets the contract of each public function. Assumes nothing.
+-- Only one answer, and only one content of a lent buffer, meets the contract of each public function.
 use mathlib.Core.Path.{_≡_, _∙_, refl, sym, ap}
 use mathlib.Core.List.{List}
 use Prim.Native.Nat.{ℕ, _+_}

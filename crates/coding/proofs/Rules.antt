@@ -1,4 +1,4 @@
--- The lists of lemmas that a `search` at a return takes. Assumes nothing.
+-- The lists of lemmas that a `search` at a return takes.
 use mathlib.Core.Path.{_≡_, refl}
 use Prim.Native.Nat.{ℕ, _≤_, _<_}
 use mathlib.Core.List.{List}

@@ -1,4 +1,4 @@
--- What one turn of this crate's loops does. Assumes nothing.
+-- What one turn of this crate's loops does.
 use mathlib.Core.Path.{_≡_, refl, ap, _∙_}
 use mathlib.Core.List.{List, [], _∷_, _++_}
 use Prim.Native.Nat.{ℕ, suc, _+_, _-_, _*_, _/_, _%_, _^_, _≤_, _<_}

@@ -1,4 +1,4 @@
--- How a writer's proof goes: the ways a put ends, what a run of puts keeps, and the ways a writer ends. Assumes nothing.
+-- How a writer's proof goes: the ways a put ends, what a run of puts keeps, and the ways a writer ends.
 use mathlib.Core.Path.{_≡_, refl, ap, _∙_}
 use mathlib.Core.List.{List, [], _++_, append-nil}
 use mathlib.Core.Bool.{Bool, true, false}

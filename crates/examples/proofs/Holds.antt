@@ -1,4 +1,4 @@
--- Every row of the examples holds, by computing. Assumes nothing.
+-- Every row of the examples holds, by computing.
 use mathlib.Core.Path.{_≡_, refl}
 use Rattle.coding.specs.Words.{if_then_else_, andThen}
 use Rattle.coding.specs.Bytes.{be, bytesBE}

@@ -1,4 +1,4 @@
--- The worked examples marked P in document 01, "Bench examples", as one examples. A row is a question and the reply that the
+-- The worked examples marked P in document 01, "Bench examples", as one table. A row is a question and the reply that the
 -- document gives; `answer` replies to a question by the definitions; the one statement is that `answers examples` is `replies examples`.
 -- To add a row: write it into `examples`. For a new kind of question, first a constructor of `Question` and a clause of `answer` by
 -- the definition in question, whose name goes on the `unfolding` line of proofs/Holds.antt.

@@ -1,5 +1,4 @@
 -- A close is no longer than its max; the transport's with an error code of 16,384 or more passes it by at most six bytes.
---
 use mathlib.Core.Path.{_≡_, sym, _∙_}
 use mathlib.Core.List.{List, [], _∷_}
 use mathlib.Core.Bool.{Bool, true, false}

@@ -10,7 +10,7 @@ use Rattle.coding.specs.Words.{if_then_else_, Answer, no, ok}
 use Rattle.coding.specs.declared.Place.{Place}
 use Rattle.packet.specs.Header.{Header, initial, zeroRtt, handshake, retry, short, negotiate, Outcome}
 use Rattle.packet.specs.Split.{nowhere}
-use Rattle.packet.specs.Walk.{Met, atEnd, packet, refusedAt, PacketStep, packetStepAt}
+use Rattle.packet.specs.Walk.{Met, packet, PacketStep}
 use Rattle.protect.specs.Steps.{leftBy, readOff, sampleAt, Opened, finishAt, finished, onlyDone, maskAt}
 use Rattle.protect.specs.Steps as opened
 use Rattle.frame.specs.Table.{flag}
@@ -171,7 +171,7 @@ pub record UnmasksPacket (kind : ℕ) (old : List ℕ) (at : ℕ) (mask : List �
   pub says : r ≡ unmaskRecord at (length old) (readOff (finished (numberedKind kind) (longKind kind) at) (unmaskAt kind old at mask))
   pub leaves : new ≡ leftBy (unmaskAt kind old at mask) old
 
--- ---- mask: the mask step, of a mask of five bytes; its answer is the refusal, 0 where it is onlyDone
+-- ---- mask: the mask step, of a mask of five bytes; its answer is the refusal, 0 where it is done
 
 abbrev pub maskRecord : Answer (Unit {0}) → ℕ
 maskRecord (no k) = k

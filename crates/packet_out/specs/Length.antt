@@ -31,6 +31,6 @@ lengthSet headerLen number hasLength packet =
     (if hasLength then lengthInto headerLen (numberBytes number) packet else ok packet)
     else no 14
 
--- the answer is only that it is onlyDone
+-- the answer is only that it is done
 abbrev pub SetsLength : ℕ → Option ℕ → Bool → List ℕ → Answer (Unit {0}) → List ℕ → Type 0
 SetsLength headerLen number hasLength packet = Changed onlyDone (lengthSet headerLen number hasLength packet) packet

@@ -98,7 +98,7 @@ headerPlace at number = record { start = 0; len = at + numberBytes number }
 abbrev pub payloadPlace : ℕ → Option ℕ → ℕ → Place
 payloadPlace at number len = record { start = at + numberBytes number; len = len - (at + numberBytes number) }
 
--- ---- the mask step, whose answer is only that it is onlyDone; a header with a number is long where it has a Length
+-- ---- the mask step, whose answer is only that it is done; a header with a number is long where it has a Length
 
 abbrev pub onlyDone : List ℕ → Unit {0}
 onlyDone packet = tt
@@ -112,7 +112,7 @@ protectAt isLong packet at mask =
 abbrev pub Protects : Bool → List ℕ → ℕ → List ℕ → Answer (Unit {0}) → List ℕ → Type 0
 Protects isLong packet at mask = Changed onlyDone (protectAt isLong packet at mask) packet
 
--- where there is no number, nothing is onlyDone
+-- where there is no number, nothing is done
 unfoldable pub maskNumber : Option ℕ → Bool → ℕ → List ℕ → List ℕ → Answer (List ℕ)
 maskNumber none hasLength headerLen packet mask = ok packet
 maskNumber (some k) hasLength headerLen packet mask = protectAt hasLength packet (headerLen - k) mask

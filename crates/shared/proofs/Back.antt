@@ -1,17 +1,15 @@
--- What is written of a CID is read back, wherever it stands. Assumes nothing.
-use mathlib.Core.Path.{_≡_, refl, sym, ap, _∙_}
+-- What is written of a CID is read back, wherever it stands.
+use mathlib.Core.Path.{_≡_, refl, sym, _∙_}
 use mathlib.Core.List.{List, [], _∷_, _++_, append-assoc}
-use mathlib.Core.Bool.{true}
 use Prim.Native.Nat.{ℕ, _+_, _-_, _%_, _≤_}
 use native.Mathlib.Omega.{arith}
-use lib.Dec.{leb}
 use lib.ListN.{length, take, drop, replicate, length-append}
 use lib.Seq.{drop-append-add, take-at, length-take-le}
 use borrow.Author.Tests.{le-leb}
-use Rattle.coding.specs.Words.{if_then_else_, got, andThen, Answer, ok}
-use Rattle.coding.specs.Bytes.{bytesBE, splice}
+use Rattle.coding.specs.Words.{if_then_else_, got, andThen, ok}
+use Rattle.coding.specs.Bytes.{splice}
 use Rattle.coding.specs.Places.{partOf}
-use Rattle.coding.specs.Reading.{fixedAt, takeAt}
+use Rattle.coding.specs.Reading.{fixedAt}
 use Rattle.coding.specs.declared.Place.{Place}
 use Rattle.coding.proofs.Laws.{take-some, part-in}
 use Rattle.coding.proofs.Back.{fixed-back}

@@ -1,17 +1,16 @@
--- Each map from the code's values to the documents' numbers has an inverse: what is said settles the value. Assumes nothing.
-use mathlib.Core.Path.{_≡_, refl, sym, ap, _∙_}
+-- Each map from the code's values to the documents' numbers has an inverse: what is said settles the value.
+use mathlib.Core.Path.{_≡_, refl, ap}
 use mathlib.Core.Bool.{cond}
 use Prim.Native.Nat.{ℕ}
 use lib.Dec.{eqb}
-use Rattle.coding.specs.Words.{Answer, no, ok}
+use Rattle.coding.specs.Words.{Answer}
 use Rattle.coding.proofs.Numbers.{refusalOf, refusal-back}
 use Rattle.coding.proofs.Inverse.{one-by, answered}
-use Rattle.shared.specs.Said.{cidAnswerOf, cidReadOf, ecnOf, ecnReadOf, sideBit, dirBit, streamOf}
+use Rattle.shared.specs.Said.{cidAnswerOf, cidReadOf, ecnReadOf, sideBit, dirBit, streamOf}
 use Rattle.shared.specs.declared.cid.ConnectionId.{ConnectionId}
 use Rattle.shared.specs.declared.cid.CidRead.{CidRead}
 use Rattle.shared.specs.declared.cid.CidAnswer.{CidAnswer}
 use Rattle.shared.specs.declared.cid.CidAnswer.the-variants as cid
-use Rattle.shared.specs.declared.codepoint.EcnCodepoint.{EcnCodepoint}
 use Rattle.shared.specs.declared.codepoint.EcnCodepoint.the-variants as ecn
 use Rattle.shared.specs.declared.codepoint.EcnRead.{EcnRead}
 use Rattle.shared.specs.declared.codepoint.EcnRead.the-variants as ecn-read

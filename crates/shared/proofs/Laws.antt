@@ -1,15 +1,14 @@
--- Laws of the definitions, for this crate's proofs and those above it. Assumes nothing.
-use mathlib.Core.Path.{_≡_, refl, sym, ap, _∙_}
+-- Laws of the definitions, for this crate's proofs and those above it.
+use mathlib.Core.Path.{_≡_, refl, ap}
 use mathlib.Core.List.{List, [], _∷_, _++_}
-use mathlib.Core.Bool.{Bool, true, false}
 use Prim.Native.Nat.{ℕ, zero, suc, _+_, _-_, _*_, _/_, _%_, _^_, _≤_, _<_}
 use native.Mathlib.Nat.{not-suc-le-zero, le-of-suc-le-suc}
 use native.Mathlib.Numerals.{add-one}
 use native.Mathlib.Omega.{arith}
-use lib.ListN.{length, take, drop, getD, set, replicate, length-take, length-drop}
-use lib.Dec.{ltb, leb}
+use lib.ListN.{length, take, getD, set, replicate, length-take}
+use lib.Dec.{leb}
 use borrow.Author.Tests.{leb-true, le-leb, lt-leb, lt-ltb}
-use Rattle.coding.specs.Words.{if_then_else_, Got, cut, got, andThen, Answer, no, ok}
+use Rattle.coding.specs.Words.{if_then_else_, Got, cut, got, no, ok}
 use Rattle.coding.specs.Bytes.{bytesBE}
 use Rattle.coding.specs.Places.{partOf}
 use Rattle.coding.specs.Reading.{fixedAt, takeAt}

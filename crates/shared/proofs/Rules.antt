@@ -1,4 +1,4 @@
--- The lists of lemmas that a `search` at a return takes, where a CID is read. Assumes nothing.
+-- The lists of lemmas that a `search` at a return takes, where a CID is read.
 use mathlib.Core.Path.{_≡_, ap}
 use Prim.Native.Nat.{ℕ}
 use mathlib.Core.List.{List}

@@ -10,8 +10,6 @@ use lib.Seq.{take-all}
 use denote.Ref.{now}
 use Rattle.shared.proofs.cid.filled.Statement.{statement}
 use Rattle.shared.proofs.cid.filled.Tie as tie
-use Rattle.shared.proofs.cid.filled.Reads as reads
-use Rattle.shared.proofs.cid.filled.Lts as lts
 
 abbrev Inv-loop : tie.InvT-loop
 Inv-loop bytes all₀ i₀ all i = (i ≤ length bytes) × (all ≡ take i bytes ++ replicate (20 - i) 0)

@@ -6,10 +6,6 @@ use Rattle.coding.proofs.Rules.{steps}
 use borrow.Author.Needs.{needs}
 use Rattle.shared.proofs.cid.long_place.Statement.{statement}
 use Rattle.shared.proofs.cid.long_place.Tie as tie
-use Rattle.shared.proofs.cid.long_place.Reads as reads
-use Rattle.shared.proofs.cid.long_place.Lts as lts
-use Rattle.coding.proofs.get_u8.Reads as get-u8-reads
-use Rattle.coding.proofs.take.Reads as take-reads
 
 get-u8-requires : tie.Need-get-u8-requires
 get-u8-requires c κs = search needs

@@ -1,13 +1,9 @@
 use Rattle.shared.specs.Cid.{noCid}
 use Rattle.shared.specs.Said.{cidReadOf, cidAnswerOf}
-use mathlib.Core.Path.{_∙_, ap}
 use Rattle.shared.proofs.Rules.{cid-ways}
 use borrow.Author.Needs.{needs}
 use Rattle.shared.proofs.cid.refused.Statement.{statement}
 use Rattle.shared.proofs.cid.refused.Tie as tie
-use Rattle.shared.proofs.cid.refused.Reads as reads
-use Rattle.shared.proofs.cid.refused.Lts as lts
-use Rattle.shared.proofs.cid.ConnectionId.empty.Reads as empty-reads
 
 empty-requires : tie.Need-empty-requires
 empty-requires c κs = search needs

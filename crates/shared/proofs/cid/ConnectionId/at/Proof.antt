@@ -6,11 +6,6 @@ use mathlib.Core.Path.{_∙_, ap}
 use borrow.Author.Needs.{needs}
 use Rattle.shared.proofs.cid.ConnectionId.at.Statement.{statement}
 use Rattle.shared.proofs.cid.ConnectionId.at.Tie as tie
-use Rattle.shared.proofs.cid.ConnectionId.at.Reads as reads
-use Rattle.shared.proofs.cid.ConnectionId.at.Lts as lts
-use Rattle.coding.proofs.part.Reads as part-reads
-use Rattle.shared.proofs.cid.ConnectionId.empty.Reads as empty-reads
-use Rattle.shared.proofs.cid.filled.Reads as filled-reads
 
 empty-requires : tie.Need-empty-requires
 empty-requires c κs = search needs

@@ -4,11 +4,6 @@ use Rattle.shared.proofs.Rules.{cid-ways}
 use borrow.Author.Needs.{needs}
 use Rattle.shared.proofs.cid.ConnectionId.decode_long.Statement.{statement}
 use Rattle.shared.proofs.cid.ConnectionId.decode_long.Tie as tie
-use Rattle.shared.proofs.cid.ConnectionId.decode_long.Reads as reads
-use Rattle.shared.proofs.cid.ConnectionId.decode_long.Lts as lts
-use Rattle.shared.proofs.cid.ConnectionId.at.Reads as at-reads
-use Rattle.shared.proofs.cid.long_place.Reads as long-place-reads
-use Rattle.shared.proofs.cid.refused.Reads as refused-reads
 
 long-place-requires : tie.Need-long-place-requires
 long-place-requires c κs = search needs

@@ -2,8 +2,6 @@ use Rattle.shared.specs.Cid.{cidOf}
 use mathlib.Core.Path.{refl}
 use Rattle.shared.proofs.cid.ConnectionId.empty.Statement.{statement}
 use Rattle.shared.proofs.cid.ConnectionId.empty.Tie as tie
-use Rattle.shared.proofs.cid.ConnectionId.empty.Reads as reads
-use Rattle.shared.proofs.cid.ConnectionId.empty.Lts as lts
 
 returns : tie.Need-returns
 unfolding cidOf

@@ -7,9 +7,6 @@ use lib.ListN.{length}
 use borrow.Author.Needs.{needs}
 use Rattle.shared.proofs.cid.ConnectionId.encode_long.Statement.{statement}
 use Rattle.shared.proofs.cid.ConnectionId.encode_long.Tie as tie
-use Rattle.shared.proofs.cid.ConnectionId.encode_long.Reads as reads
-use Rattle.shared.proofs.cid.ConnectionId.encode_long.Lts as lts
-use Rattle.shared.proofs.cid.ConnectionId.put_long.Reads as put-long-reads
 
 cast-len : tie.Need-cast-len
 cast-len c = search needs

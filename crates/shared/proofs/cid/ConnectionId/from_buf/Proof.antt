@@ -4,11 +4,6 @@ use Rattle.shared.proofs.Rules.{cid-ways}
 use borrow.Author.Needs.{needs}
 use Rattle.shared.proofs.cid.ConnectionId.from_buf.Statement.{statement}
 use Rattle.shared.proofs.cid.ConnectionId.from_buf.Tie as tie
-use Rattle.shared.proofs.cid.ConnectionId.from_buf.Reads as reads
-use Rattle.shared.proofs.cid.ConnectionId.from_buf.Lts as lts
-use Rattle.coding.proofs.take.Reads as take-reads
-use Rattle.shared.proofs.cid.ConnectionId.at.Reads as at-reads
-use Rattle.shared.proofs.cid.refused.Reads as refused-reads
 
 refused-requires : tie.Need-refused-requires
 refused-requires c κs = search needs

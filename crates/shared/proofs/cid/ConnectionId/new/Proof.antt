@@ -4,10 +4,6 @@ use Rattle.shared.proofs.Rules.{cid-ways}
 use borrow.Author.Needs.{needs}
 use Rattle.shared.proofs.cid.ConnectionId.new.Statement.{statement}
 use Rattle.shared.proofs.cid.ConnectionId.new.Tie as tie
-use Rattle.shared.proofs.cid.ConnectionId.new.Reads as reads
-use Rattle.shared.proofs.cid.ConnectionId.new.Lts as lts
-use Rattle.shared.proofs.cid.filled.Reads as filled-reads
-use Rattle.shared.proofs.cid.refused.Reads as refused-reads
 
 refused-requires : tie.Need-refused-requires
 refused-requires c κs = search needs

@@ -7,9 +7,6 @@ use native.Mathlib.Omega.{arith}
 use borrow.Author.Needs.{needs}
 use Rattle.shared.proofs.cid.ConnectionId.put_bytes.Statement.{statement}
 use Rattle.shared.proofs.cid.ConnectionId.put_bytes.Tie as tie
-use Rattle.shared.proofs.cid.ConnectionId.put_bytes.Reads as reads
-use Rattle.shared.proofs.cid.ConnectionId.put_bytes.Lts as lts
-use Rattle.coding.proofs.put_slice.Reads as put-slice-reads
 
 cast-len : tie.Need-cast-len
 cast-len c = search needs

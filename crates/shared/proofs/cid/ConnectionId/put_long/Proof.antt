@@ -1,4 +1,4 @@
-use Rattle.shared.specs.Cid.{cidBytes, longBytes}
+use Rattle.shared.specs.Cid.{longBytes}
 use Rattle.shared.proofs.Laws.{one-byte, length-cid, length-long, cid-some, long-some, long-nothing}
 use Rattle.coding.proofs.Writes.{put-none, put-not, put-fits, put-so, so-put}
 use native.Mathlib.Omega.{arith}
@@ -7,10 +7,6 @@ use lib.ListN.{length}
 use borrow.Author.Needs.{needs}
 use Rattle.shared.proofs.cid.ConnectionId.put_long.Statement.{statement}
 use Rattle.shared.proofs.cid.ConnectionId.put_long.Tie as tie
-use Rattle.shared.proofs.cid.ConnectionId.put_long.Reads as reads
-use Rattle.shared.proofs.cid.ConnectionId.put_long.Lts as lts
-use Rattle.coding.proofs.put_u8.Reads as put-u8-reads
-use Rattle.shared.proofs.cid.ConnectionId.put_bytes.Reads as put-bytes-reads
 
 cast-len : tie.Need-cast-len
 cast-len c = search needs

@@ -3,8 +3,6 @@ use lib.Bits.{and-mask}
 use native.Mathlib.Omega.{arith}
 use Rattle.shared.proofs.codepoint.EcnCodepoint.from_bits.Statement.{statement}
 use Rattle.shared.proofs.codepoint.EcnCodepoint.from_bits.Tie as tie
-use Rattle.shared.proofs.codepoint.EcnCodepoint.from_bits.Reads as reads
-use Rattle.shared.proofs.codepoint.EcnCodepoint.from_bits.Lts as lts
 
 returns : tie.Need-returns
 unfolding ecnBits

@@ -1,8 +1,6 @@
 use borrow.Author.Needs.{needs}
 use Rattle.shared.proofs.codepoint.EcnCodepoint.is_ce.Statement.{statement}
 use Rattle.shared.proofs.codepoint.EcnCodepoint.is_ce.Tie as tie
-use Rattle.shared.proofs.codepoint.EcnCodepoint.is_ce.Reads as reads
-use Rattle.shared.proofs.codepoint.EcnCodepoint.is_ce.Lts as lts
 
 enum-told : tie.Need-enum-told
 enum-told c = search needs

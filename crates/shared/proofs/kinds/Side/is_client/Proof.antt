@@ -1,8 +1,6 @@
 use borrow.Author.Needs.{needs}
 use Rattle.shared.proofs.kinds.Side.is_client.Statement.{statement}
 use Rattle.shared.proofs.kinds.Side.is_client.Tie as tie
-use Rattle.shared.proofs.kinds.Side.is_client.Reads as reads
-use Rattle.shared.proofs.kinds.Side.is_client.Lts as lts
 
 enum-told : tie.Need-enum-told
 enum-told c = search needs

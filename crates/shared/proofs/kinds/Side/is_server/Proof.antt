@@ -1,8 +1,6 @@
 use borrow.Author.Needs.{needs}
 use Rattle.shared.proofs.kinds.Side.is_server.Statement.{statement}
 use Rattle.shared.proofs.kinds.Side.is_server.Tie as tie
-use Rattle.shared.proofs.kinds.Side.is_server.Reads as reads
-use Rattle.shared.proofs.kinds.Side.is_server.Lts as lts
 
 enum-told : tie.Need-enum-told
 enum-told c = search needs

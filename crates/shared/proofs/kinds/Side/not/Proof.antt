@@ -1,8 +1,6 @@
 use borrow.Author.Needs.{needs}
 use Rattle.shared.proofs.kinds.Side.not.Statement.{statement}
 use Rattle.shared.proofs.kinds.Side.not.Tie as tie
-use Rattle.shared.proofs.kinds.Side.not.Reads as reads
-use Rattle.shared.proofs.kinds.Side.not.Lts as lts
 
 enum-told : tie.Need-enum-told
 enum-told c = search needs

@@ -2,8 +2,6 @@ use Rattle.shared.specs.Streams.{dirOf}
 use native.Mathlib.Omega.{arith}
 use Rattle.shared.proofs.kinds.StreamId.dir.Statement.{statement}
 use Rattle.shared.proofs.kinds.StreamId.dir.Tie as tie
-use Rattle.shared.proofs.kinds.StreamId.dir.Reads as reads
-use Rattle.shared.proofs.kinds.StreamId.dir.Lts as lts
 
 returns : tie.Need-returns
 unfolding dirOf

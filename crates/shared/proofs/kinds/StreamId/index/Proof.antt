@@ -2,8 +2,6 @@ use Rattle.shared.specs.Streams.{indexOf}
 use mathlib.Core.Path.{refl}
 use Rattle.shared.proofs.kinds.StreamId.index.Statement.{statement}
 use Rattle.shared.proofs.kinds.StreamId.index.Tie as tie
-use Rattle.shared.proofs.kinds.StreamId.index.Reads as reads
-use Rattle.shared.proofs.kinds.StreamId.index.Lts as lts
 
 returns : tie.Need-returns
 unfolding indexOf

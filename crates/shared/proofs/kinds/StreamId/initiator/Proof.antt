@@ -2,8 +2,6 @@ use Rattle.shared.specs.Streams.{initiatorOf}
 use native.Mathlib.Omega.{arith}
 use Rattle.shared.proofs.kinds.StreamId.initiator.Statement.{statement}
 use Rattle.shared.proofs.kinds.StreamId.initiator.Tie as tie
-use Rattle.shared.proofs.kinds.StreamId.initiator.Reads as reads
-use Rattle.shared.proofs.kinds.StreamId.initiator.Lts as lts
 
 returns : tie.Need-returns
 unfolding initiatorOf

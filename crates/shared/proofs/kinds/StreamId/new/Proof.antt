@@ -1,15 +1,10 @@
 use Rattle.shared.specs.Streams.{streamMade, streamId}
 use Rattle.shared.specs.Said.{streamOf}
 use Rattle.coding.specs.Words.{if_then_else_}
-use native.Mathlib.Omega.{arith}
 use borrow.Author.Tests.{lt-ltb, le-ltb}
 use borrow.Author.Needs.{needs}
 use Rattle.shared.proofs.kinds.StreamId.new.Statement.{statement}
 use Rattle.shared.proofs.kinds.StreamId.new.Tie as tie
-use Rattle.shared.proofs.kinds.StreamId.new.Reads as reads
-use Rattle.shared.proofs.kinds.StreamId.new.Lts as lts
-use Rattle.shared.proofs.kinds.Dir.bit.Reads as kinds-Dir-bit-reads
-use Rattle.shared.proofs.kinds.Side.bit.Reads as kinds-Side-bit-reads
 
 mul-t6 : tie.Need-mul-t6
 mul-t6 c = search needs
