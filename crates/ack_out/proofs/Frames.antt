@@ -18,7 +18,7 @@ use Rattle.coding.specs.declared.refusal.Refusal.{Refusal}
 use Rattle.coding.specs.declared.varint.Sized.{Sized}
 use Rattle.coding.specs.declared.varint.Sized.the-variants as sized
 use Rattle.frame.specs.Table.{table}
-use Rattle.row_out.specs.Writing.{number, nothing, roundsIn, fieldBytes, rowBytes, frameBytes}
+use Rattle.row_out.specs.Writing.{number, roundsIn, fieldBytes, rowBytes, frameBytes}
 use Rattle.row_out.specs.Limits.{below62, inFrame, limited, wordNumbers, frameOut, varsBytes, varsOut}
 use Rattle.row_out.proofs.Laws.{below-cons, cons-below, limited-ok, limited-past, limited-long, Held, out-ok}
 use Rattle.row_out.proofs.RoundCount.{rounds-vars}

@@ -20,7 +20,7 @@ use Rattle.ack.specs.Scan.{scanAt}
 use Rattle.frame.specs.Format.{Value, num, place, none, Said, said, Field, var, orNone, atMost, bytes, rest, fixed, num64, cid, ackBlocks, const, absent, lastRead, lastButOne, Read, done, thenRead, bytesAt, allLeftAt, cidAt, upTo, blocksAt, orNothing, fieldAt, fieldsAt, inOrder}
 use Rattle.frame.specs.Table.{Row, look, frameBodyAt, outcome, taken, frameAt}
 use Rattle.frame.proofs.Walks.{step-taken, walk-taken}
-use Rattle.row_out.specs.Writing.{Word, number, raw, nothing, wordNumber, wordBytes, roundsIn, fieldBytes, rowBytes, frameBytes}
+use Rattle.row_out.specs.Writing.{Word, number, raw, wordNumber, wordBytes, roundsIn, fieldBytes, rowBytes, frameBytes}
 use Rattle.row_out.specs.Back.{asWord, Fits, valueAt, valuesAt, WordsFit, wordRead, wordsRead, ReadAs}
 use Rattle.row_out.specs.Bounds.{boundOf}
 use Rattle.row_out.specs.Limits.{below62, wordNumbers, frameOut, varsOut}

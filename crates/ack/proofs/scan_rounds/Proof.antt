@@ -1,5 +1,5 @@
 use lib.ListN.{length}
-use Prim.Native.Nat.{_-_, _<_, _^_}
+use Prim.Native.Nat.{_-_}
 use mathlib.Core.Path.{_≡_, refl, _∙_}
 use native.Mathlib.Omega.{arith}
 use borrow.Author.Needs.{needs}
