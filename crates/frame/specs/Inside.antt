@@ -12,7 +12,7 @@ use Rattle.frame.specs.Walk.{frame, stepAt}
 abbrev pub PartsBetween : ℕ → ℕ → List Value → Type 0
 PartsBetween a b vs = (p : Place) → List·Memᴰ (place p) vs → (a ≤ p .start) × (p .start + p .len ≤ b)
 
--- the frame is past its start and inside the payload, and its parts are inside the frame
+-- the frame ends past its start and inside the payload, and its parts lie inside the frame
 abbrev pub FrameInside : List ℕ → ℕ → List Value → ℕ → Type 0
 FrameInside s start vs next = ((start < next) × (next ≤ length s)) × PartsBetween start next vs
 
