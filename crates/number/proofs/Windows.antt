@@ -1,13 +1,13 @@
 -- Laws of the four windows, over the width.
-use Prim.Native.Nat.{ℕ, zero, suc, _+_, _-_, _*_, _^_, _≤_, _<_}
-use mathlib.Core.Path.{_≡_, refl, ap, _∙_}
+use Prim.Native.Nat.{ℕ, zero, suc, _+_, _-_, _*_, _/_, _%_, _^_, _≤_, _<_}
+use mathlib.Core.Path.{_≡_, refl, sym, ap, _∙_}
 use mathlib.Core.Bool.{Bool, true, false}
 use mathlib.Core.Logic.{_⊎_, inl, inr, ⊎-elim}
-use native.Mathlib.Nat.{two-pow-succ, pow-succ'}
+use native.Mathlib.Nat.{two-pow-succ, pow-succ', div-eq-of-lt, div-add-mod', mod-lt}
 use native.Mathlib.Omega.{arith}
-use lib.Dec.{leb, ltb}
+use lib.Dec.{leb, ltb, eqb}
 use lib.Pow.{pow-mono, pow-add}
-use borrow.Author.Tests.{leb-true, leb-false, ltb-true, ltb-false, lt-ltb, le-ltb}
+use borrow.Author.Tests.{leb-true, leb-false, ltb-true, ltb-false, lt-ltb, le-ltb, eq-eqb, ne-eqb}
 use Rattle.coding.specs.Words.{if_then_else_}
 use Rattle.shared.specs.declared.kinds.CutNumber.{CutNumber}
 use Rattle.number.specs.Cutting.{windowOf, isCut, firstFit, bytesFor}
@@ -84,6 +84,35 @@ unfolding isCut
 cut-rule c e =
     let v : c .1 < windowOf (c .0) = ltb-true _ _ e in
     record { window = window-some (c .0) (omega arith); value = v }
+
+-- and how it is tested: no value past the window
+no-more : (v w : ℕ) → 0 < w → eqb (v / w) 0 ≡ ltb v w
+no-more v w p =
+    ⊎-elim
+    (λ a. ne-eqb (v / w) 0 (λ z. absurd (omega (arith, a, small z))) ∙ sym (le-ltb v w a))
+    (λ a. eq-eqb (v / w) 0 (div-eq-of-lt a) ∙ sym (lt-ltb v w a))
+    (le? w v)
+  where
+    small : v / w ≡ 0 → v < w
+    small z =
+        let e : v / w * w + v % w ≡ v = div-add-mod' v w in
+        let f : 0 * w + v % w ≡ v = rw z at e in
+        omega (arith, f, mod-lt v p)
+
+module _ (c : CutNumber) where
+  pub cut-few : c .0 < 1 → isCut c ≡ false
+  unfolding isCut
+  cut-few p = rw (window-low (c .0) p) (le-ltb (c .1) 0 (omega arith))
+
+  pub cut-many : 4 < c .0 → isCut c ≡ false
+  unfolding isCut
+  cut-many p = rw (window-high (c .0) p) (le-ltb (c .1) 0 (omega arith))
+
+  pub cut-test : 1 ≤ c .0 → c .0 ≤ 4 → eqb (c .1 / 2 ^ (8 * c .0)) 0 ≡ isCut c
+  unfolding isCut
+  cut-test p q =
+      let w = window-made (c .0) p q in
+      rw (w .is) (no-more (c .1) (2 ^ (8 * c .0)) (omega (arith, w)))
 
 -- ---- 17.1: the fewest of the lengths from low on with more than t values
 

@@ -54,8 +54,15 @@ fn window(k: usize) -> u64
 fn is_cut(c: CutNumber) -> bool
     ensures { λ r. ⌜ r ≡ isCut c ⌝ }
 {
+    let k = c.0;
+    if k < 1 {
+        return false;
+    }
+    if 4 < k {
+        return false;
+    }
     let value = c.1 as u64;
-    value < window(c.0)
+    value >> (8 * k) == 0
 }
 
 // The fewest bytes for a range; 0 where four are too few.
