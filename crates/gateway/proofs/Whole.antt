@@ -21,7 +21,7 @@ use Rattle.packet_out.specs.Before.{roomy, numberSize, lengthFits, fits, header
 
 -- what fits
 pub record Fit (p : Plain) (dst src : ConnectionId) (token : List ℕ) (n : ℕ) : Type 0 where
-  pub rules : keepRules (numberIn p) dst src ≡ true
+  pub rules : keepRules (plainNumber p) dst src ≡ true
   pub all : length (headerBytes p dst src token) + n ≤ 65527
   pub len : lengthFits (shapeBy bitsOf p .hasLength) (numberSize p + n) ≡ true
 

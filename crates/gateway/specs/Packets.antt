@@ -10,7 +10,7 @@ use Rattle.coding.specs.Words.{if_then_else_, Answer, no, ok}
 use Rattle.coding.specs.declared.Place.{Place}
 use Rattle.packet.specs.Header.{Header, initial, zeroRtt, handshake, retry, short, negotiate, Outcome}
 use Rattle.packet.specs.Split.{nowhere}
-use Rattle.packet.specs.Walk.{Met, packet, PacketStep}
+use Rattle.packet.specs.Walk.{Met, atEnd, packet, refusedAt, PacketStep, packetStepAt}
 use Rattle.protect.specs.Steps.{leftBy, readOff, sampleAt, Opened, finishAt, finished, onlyDone, maskAt}
 use Rattle.protect.specs.Steps as opened
 use Rattle.frame.specs.Table.{flag}
@@ -94,9 +94,9 @@ noPacketRecord k start =
     }
 
 abbrev pub metRecord : ℕ → Met → Outcome → SplitAnswer
-metRecord at ended h = noPacketRecord 0 at
+metRecord at atEnd h = noPacketRecord 0 at
 metRecord at (packet start len) h = splitRecord start len h
-metRecord at (stopped start) h = splitRecord start 0 h
+metRecord at (refusedAt start) h = splitRecord start 0 h
 
 abbrev pub stepRecord : ℕ → PacketStep → SplitAnswer
 stepRecord at x = metRecord at (x .met) (x .header)
@@ -104,7 +104,7 @@ stepRecord at x = metRecord at (x .met) (x .header)
 -- one step of the walk
 abbrev pub splitFor : List ℕ → ℕ → ℕ → List ℕ → ℕ → SplitAnswer
 splitFor s at local versions grease =
-    if ltb 1 grease then noPacketRecord 14 at else stepRecord at (stepAt s at local versions (eqb grease 1))
+    if ltb 1 grease then noPacketRecord 14 at else stepRecord at (packetStepAt s at local versions (eqb grease 1))
 
 -- ---- the sample's place; one of no bytes where there is none
 
