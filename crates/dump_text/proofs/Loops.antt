@@ -1,19 +1,21 @@
 -- What one turn of the dump's loops does.
 use mathlib.Core.Path.{_≡_, refl, sym, ap, _∙_}
 use mathlib.Core.List.{List, [], _∷_, _++_, append-assoc}
-use mathlib.Core.Bool.{false}
+use mathlib.Core.Bool.{Bool, true, false}
 use mathlib.Core.Option.{Option, none, some}
-use Prim.Native.Nat.{ℕ, zero, suc, _+_, _≤_, _<_}
+use Prim.Native.Nat.{ℕ, zero, suc, _+_, _-_, _^_, _≤_, _<_}
 use native.Mathlib.Omega.{arith}
 use lib.ListN.{length, length-append}
+use Rattle.coding.specs.Words.{if_then_else_}
 use Rattle.coding.specs.Writing.{Put}
 use Rattle.coding.proofs.Laws.{length-splice}
-use Rattle.coding.proofs.Writes.{So, so-none, so-put}
+use Rattle.coding.proofs.Writes.{So, so-none, so-put, put-so}
 use Rattle.packet.proofs.Walks.{repeated, walk-steps, step-inside}
 use Rattle.dump_text.specs.Dump.{linesOf, dumpText, nextOf}
-use Rattle.dump_text.specs.Turns.{stepHere, lineAt, nextIn, textPlace}
+use Rattle.dump_text.specs.Turns.{stepHere, lineAt, nextIn, textPlace, placeAfter, Roomy, AllPut}
 use Rattle.dump_text.specs.declared.Turn.{Turn}
 use Rattle.dump_text.specs.declared.Turn.the-variants as turn
+use Rattle.dump_text.proofs.Bounds.{line-short}
 use Rattle.dump_text.proofs.Texts.{next-some, more-text, last-text}
 
 pub so-length : {old bs new : List ℕ} {r : ℕ} → So old 0 bs r new → length bs ≤ length old → length new ≡ length old
@@ -45,13 +47,14 @@ restText s turns at = linesOf (length s) (repeated (suc turns) s at 0 (1 ∷ [])
 
 -- the steps up to a place have said this
 pub record Came (s : List ℕ) (at : ℕ) (said : List ℕ) : Type 0 where
+  pub inside : at ≤ length s
   pub turns : ℕ
   pub enough : length s ≤ turns + at
   pub rest : said ++ restText s turns at ≡ dumpText s
 
 came-start : (s : List ℕ) → Came s 0 []
 unfolding dumpText
-came-start s = record { turns = length s; enough = omega arith; rest = ap (linesOf (length s)) (walk-steps s 0 (1 ∷ []) false) }
+came-start s = record { inside = omega arith; turns = length s; enough = omega arith; rest = ap (linesOf (length s)) (walk-steps s 0 (1 ∷ []) false) }
 
 -- the packet that a step meets moves the place
 pub moves : (s : List ℕ) (at next : ℕ) → some next ≡ nextOf (stepHere s at .met) → (at < next) × (next ≤ length s)
@@ -87,6 +90,7 @@ module _ {s said : List ℕ} {at : ℕ} (g : Came s at said) where
       let u : restText s (suc turns) at ≡ lineAt s at ++ restText s turns (q .start + q .len) = more-text s at (suc turns) (q .start) (q .len) (q .is) in
       let v : restText s turns (q .start + q .len) ≡ restText s turns next = ap (restText s turns) (q .end) in
       record {
+        inside = m .1;
         turns = turns;
         enough = omega arith;
         rest = append-assoc said (lineAt s at) (restText s turns next) ∙ ap (λ (l : List ℕ). said ++ l) (sym (u ∙ ap (λ (l : List ℕ). lineAt s at ++ l) v)) ∙ t;
@@ -142,3 +146,54 @@ module _ {s old buf : List ℕ} {at p : ℕ} (g : Going s old buf at p) (fits : 
 
     pub going-more : (next : ℕ) → some next ≡ nextOf (stepHere s at .met) → Going s old new next r
     going-more next e = record { said = g .said ++ lineAt s at; so = so-on; came = came-more (g .came) next e }
+
+-- ---- both ways
+
+abbrev pub Placed : Bool → List ℕ → List ℕ → List ℕ → ℕ → ℕ → Type 0
+Placed true s old buf at p = (p ≡ 0) × (length buf ≡ length old)
+Placed false s old buf at p = Going s old buf at p
+
+pub record Lines (s old buf : List ℕ) (anew : Bool) (at p n : ℕ) : Type 0 where
+  pub count : Counting s at n
+  pub place : Placed anew s old buf at p
+
+pub lines-start : (s old : List ℕ) (anew : Bool) → Lines s old old anew 0 0 0
+lines-start s old true = record { count = counting-start s; place = (refl, refl) }
+lines-start s old false = record { count = counting-start s; place = going-start s old }
+
+module _ {s old buf : List ℕ} {at p n : ℕ} (l : length s < 2 ^ 64) where
+  pub lines-room : (anew : Bool) → Lines s old buf anew at p n → Roomy anew s (length old) → p + length (lineAt s at) ≤ length buf
+  unfolding Roomy
+  lines-room true g r = omega (arith, line-short s at l (omega (arith, g .count .came .inside)), g .place)
+  lines-room false g r = going-room (g .place) r
+
+  module _ {new : List ℕ} {q : ℕ} (put : Put (lineAt s at) buf p q new) where
+    so : (anew : Bool) → Lines s old buf anew at p n → Roomy anew s (length old) → So buf p (lineAt s at) q new
+    so anew g r = put-so (lineAt s at) buf p (lines-room anew g r) put
+
+    line-len : (anew : Bool) → Lines s old buf anew at p n → Roomy anew s (length old) → q - p ≡ length (lineAt s at)
+    line-len anew g r = omega (arith, so anew g r .place)
+
+    pub lines-len : (anew : Bool) → Lines s old buf anew at p n → Roomy anew s (length old) → (p ≤ q) × (n + (q - p) ≤ length (dumpText s))
+    lines-len anew g r = (omega (arith, so anew g r .place), counting-le (g .count) (q - p) (line-len anew g r))
+
+    pub lines-same : (anew : Bool) → Lines s old buf anew at p n → Roomy anew s (length old) → length new ≡ length old
+    unfolding Roomy
+    lines-same true g r = rw (so true g r .bytes) (length-splice buf (lineAt s at) p (lines-room true g r)) ∙ g .place .1
+    lines-same false g r =
+        rw (so false g r .bytes) (length-splice buf (lineAt s at) p (lines-room false g r))
+        ∙ so-length (g .place .so) (omega (arith, came-le (g .place .came)))
+
+    pub lines-more : (anew : Bool) → Lines s old buf anew at p n → Roomy anew s (length old) → (next : ℕ) → some next ≡ nextOf (stepHere s at .met)
+        → Lines s old new anew next (placeAfter anew q) (n + (q - p))
+    unfolding placeAfter if_then_else_ Roomy
+    lines-more true g r next e = record { count = counting-more (g .count) (q - p) (line-len true g r) next e; place = (refl, lines-same true g r) }
+    lines-more false g r next e = record { count = counting-more (g .count) (q - p) (line-len false g r) next e; place = going-more (g .place) r put next e }
+
+    pub lines-done : (anew : Bool) → Lines s old buf anew at p n → Roomy anew s (length old) → none ≡ nextOf (stepHere s at .met)
+        → AllPut s anew old (n + (q - p)) new
+    unfolding Roomy
+    lines-done true g r e =
+        record { len = counting-done (g .count) (q - p) (line-len true g r) e; bytes = λ f. let z : _≡_ {A = ℕ} 0 1 = cc in absurd (omega arith) }
+    lines-done false g r e =
+        record { len = counting-done (g .count) (q - p) (line-len false g r) e; bytes = λ f. going-done (g .place) r put e .bytes }

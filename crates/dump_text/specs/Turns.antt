@@ -1,13 +1,15 @@
 -- One turn of the dump. This serves private functions.
-use Prim.Native.Nat.{ℕ}
+use Prim.Native.Nat.{ℕ, _≤_}
 use mathlib.Core.Path.{_≡_}
 use mathlib.Core.List.{List, [], _∷_}
-use mathlib.Core.Bool.{false}
+use mathlib.Core.Bool.{Bool, true, false}
 use mathlib.Core.Option.{Option, none, some}
 use lib.ListN.{length}
+use Rattle.coding.specs.Words.{if_then_else_}
+use Rattle.coding.specs.Bytes.{splice}
 use Rattle.coding.specs.Writing.{Put}
 use Rattle.packet.specs.Walk.{PacketStep, packetStepAt}
-use Rattle.dump_text.specs.Dump.{lineOf, nextOf}
+use Rattle.dump_text.specs.Dump.{lineOf, dumpText, nextOf}
 use Rattle.dump_text.specs.declared.Turn.{Turn}
 use Rattle.dump_text.specs.declared.Turn.the-variants as turn
 
@@ -26,12 +28,22 @@ unfoldable pub textPlace : Turn → ℕ
 textPlace (turn.More next p) = p
 textPlace (turn.Done p) = p
 
--- how long the line is, and the next step is known
-pub record Counted (s : List ℕ) (at : ℕ) (r : Turn) : Type 0 where
-  pub next : nextIn r ≡ nextOf (stepHere s at .met)
-  pub len : textPlace r ≡ length (lineAt s at)
-
 -- the line is put, and the next step is known
 pub record Turned (s : List ℕ) (at : ℕ) (old : List ℕ) (p : ℕ) (r : Turn) (new : List ℕ) : Type 0 where
   pub next : nextIn r ≡ nextOf (stepHere s at .met)
   pub line : Put (lineAt s at) old p (textPlace r) new
+
+-- ---- all lines: each at the start of the buffer, where they are only to be counted, or one after the other
+
+unfoldable pub placeAfter : Bool → ℕ → ℕ
+placeAfter anew q = if anew then 0 else q
+
+-- room for each line, or for all of them
+unfoldable pub Roomy : Bool → List ℕ → ℕ → Type 0
+Roomy true s room = 80 ≤ room
+Roomy false s room = length (dumpText s) ≤ room
+
+-- how long they are together, and, where they stand one after the other, the buffer
+pub record AllPut (s : List ℕ) (anew : Bool) (old : List ℕ) (r : ℕ) (new : List ℕ) : Type 0 where
+  pub len : r ≡ length (dumpText s)
+  pub bytes : anew ≡ false → new ≡ splice old 0 (dumpText s)

@@ -14,7 +14,7 @@ ghost use Rattle.coding.specs.Said.{wroteOf};
 ghost use Rattle.coding.specs.Writing.{Put, Written};
 ghost use Rattle.packet.specs.Said.{headerOf, outcomeOf};
 ghost use Rattle.dump_text.specs.Dump.{numberThen, kindWord, refusalIn, packetLine, refusedLine, totalLine, dumpText};
-ghost use Rattle.dump_text.specs.Turns.{lineAt, Counted, Turned};
+ghost use Rattle.dump_text.specs.Turns.{lineAt, Turned, placeAfter, Roomy, AllPut};
 
 // No line is longer than this, whatever the numbers in it.
 const MAX_LINE: usize = 80;
@@ -115,32 +115,45 @@ fn put_step(s: &[u8], at: usize, buf: &mut [u8], p: usize) -> Turn
     }
 }
 
-// The same with the line in a buffer of its own, which gives its length.
-fn line_len(s: &[u8], at: usize) -> Turn
-    ensures { λ r. ⌜ Counted (now (s .entry)) at r ⌝ }
+// Where the next line goes: to the start of the buffer again, or behind the line before it.
+fn place_after(anew: bool, q: usize) -> usize
+    ensures { λ r. ⌜ r ≡ placeAfter anew q ⌝ }
 {
-    let mut line = [0u8; MAX_LINE];
-    put_step(s, at, &mut line, 0)
+    if anew {
+        return 0;
+    }
+    q
 }
 
-// The length of the whole text.
-fn text_len(s: &[u8]) -> usize
-    ensures { λ r. ⌜ r ≡ length (dumpText (now (s .entry))) ⌝ }
+// Puts the lines of a datagram one after the other, or each at the start of the buffer, and answers how long they are together.
+fn put_lines(s: &[u8], buf: &mut [u8], anew: bool) -> usize
+    requires { ⌜ Roomy anew (now s) (length (now buf)) ⌝ }
+    ensures { λ r. ⌜ AllPut (now (s .entry)) anew (now (buf .entry)) r (now (buf .exit)) ⌝ }
 {
     let mut at = 0;
+    let mut p = 0;
     let mut n = 0;
     loop {
-        let t = line_len(s, at);
+        let t = put_step(s, at, buf, p);
         match t {
-            Turn::More(next, len) => {
+            Turn::More(next, q) => {
                 at = next;
-                n += len;
+                n += q - p;
+                p = place_after(anew, q);
             }
-            Turn::Done(len) => {
-                return n + len;
+            Turn::Done(q) => {
+                return n + (q - p);
             }
         }
     }
+}
+
+// The length of the whole text: each of its lines is put into the same small buffer.
+fn text_len(s: &[u8]) -> usize
+    ensures { λ r. ⌜ r ≡ length (dumpText (now (s .entry))) ⌝ }
+{
+    let mut line = [0u8; MAX_LINE];
+    put_lines(s, &mut line, true)
 }
 
 // Whether the whole text is longer than this. Four bytes for each byte of the datagram and 64 are always enough, so there nothing
@@ -148,13 +161,12 @@ fn text_len(s: &[u8]) -> usize
 fn is_short(s: &[u8], room: usize) -> bool
     ensures { λ r. ⌜ r ≡ ltb room (length (dumpText (now (s .entry)))) ⌝ }
 {
-    if room < 64 {
-        return room < text_len(s);
+    if s.len() <= room / 4 {
+        if 64 <= room - 4 * s.len() {
+            return false;
+        }
     }
-    if (room - 64) / 4 < s.len() {
-        return room < text_len(s);
-    }
-    false
+    room < text_len(s)
 }
 
 // The whole text of a datagram, from byte 0 of buf on.
@@ -164,18 +176,5 @@ pub fn dump(s: &[u8], buf: &mut [u8]) -> Wrote
     if is_short(s, buf.len()) {
         return Wrote::Refused(Refusal::Room);
     }
-    let mut at = 0;
-    let mut p = 0;
-    loop {
-        let t = put_step(s, at, buf, p);
-        match t {
-            Turn::More(next, q) => {
-                at = next;
-                p = q;
-            }
-            Turn::Done(q) => {
-                return Wrote::Len(q);
-            }
-        }
-    }
+    Wrote::Len(put_lines(s, buf, false))
 }
