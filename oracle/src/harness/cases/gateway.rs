@@ -174,6 +174,7 @@ fn of_surface(emit: &mut dyn FnMut(String), line: &str) {
         "walk" if len(fourth) < 200 => {
             let starts = starts(line, "; ");
             starts.iter().skip(1).for_each(|at| emit(format!("gsplit {at} {asked}")));
+            emit(format!("gsplit {} {asked}", len(fourth)));
         }
         "sample" => emit(format!("gsample {} {second} {third}", kind_number(first))),
         "finish" => emit(format!("gunmask {} {second} {third} {fourth}", kind_number(first))),
