@@ -1,4 +1,4 @@
--- What one turn of the dump's loops does.
+-- What one turn of the loop over the lines does, where it counts them and where it writes them.
 use mathlib.Core.Path.{_≡_, refl, sym, ap, _∙_}
 use mathlib.Core.List.{List, [], _∷_, _++_, append-assoc}
 use mathlib.Core.Bool.{Bool, true, false}
