@@ -168,7 +168,7 @@ module _ (s : List ℕ) (at local : ℕ) (versions : List ℕ) (grease : Bool) w
       let o : Outcome = splitAt (drop at s) local versions grease .header in
       on-inside _ (o .dst) (o .src) (o .version) (o .end) (o .said) (split-stands s at local versions grease) (λ x e.
       let t = split-taken (drop at s) local versions grease x e in
-      (omega (arith, l, t .inside, length-drop at s), t .past))
+      (omega (arith, l, t .inside, length-drop at s), t .past .end))
 
   step-inside : Inside (packetStepAt s at local versions grease)
   unfolding packetStepAt
