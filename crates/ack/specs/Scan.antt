@@ -1,10 +1,10 @@
 -- ACK ranges: RFC 9000, section 19.3.1. The smallest number of a range is its largest minus the block; the next range's largest
 -- is that smallest minus the gap minus 2. Below zero is 12, a field that is cut is 10.
-use Prim.Native.Nat.{ℕ, zero, suc, _+_, _-_, _^_}
+use Prim.Native.Nat.{ℕ, zero, suc, _+_, _-_}
 use mathlib.Core.List.{List, [], _∷_}
 use lib.ListN.{length}
 use lib.Dec.{ltb, leb}
-use Rattle.coding.specs.Words.{if_then_else_, andThen, Answer, no, ok}
+use Rattle.coding.specs.Words.{if_then_else_, andThen, Answer, no, ok, numberEnd, maxDatagram}
 use Rattle.coding.specs.Varint.{varAt}
 
 -- a range: its smallest number and its largest
@@ -32,9 +32,9 @@ scanAt s at largest n =
 -- the arguments' rule comes first
 unfoldable pub scanned : List ℕ → ℕ → ℕ → ℕ → Answer ℕ
 scanned s at largest n =
-    if ltb 65527 (length s) then no 14 else
-    if leb (2 ^ 62) largest then no 14 else
-    if leb (2 ^ 62) n then no 14 else
+    if ltb maxDatagram (length s) then no 14 else
+    if leb numberEnd largest then no 14 else
+    if leb numberEnd n then no 14 else
     scanAt s at largest n
 
 -- the ranges that the rounds pass, and those that the scan passes, largest first

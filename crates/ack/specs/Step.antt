@@ -1,9 +1,9 @@
 -- One step of the reader of an ACK frame's ranges, over the bytes of the blocks: document 01, "Frames".
-use Prim.Native.Nat.{ℕ, zero, suc, _+_, _-_, _^_}
+use Prim.Native.Nat.{ℕ, zero, suc, _+_, _-_}
 use mathlib.Core.List.{List, [], _∷_}
 use lib.ListN.{length}
 use lib.Dec.{ltb, leb}
-use Rattle.coding.specs.Words.{if_then_else_, andThen}
+use Rattle.coding.specs.Words.{if_then_else_, andThen, numberEnd, maxDatagram}
 use Rattle.coding.specs.Varint.{varAt}
 use Rattle.ack.specs.Scan.{Range}
 
@@ -26,8 +26,8 @@ unmoved number at largest = record { step = refused number; largest = largest; n
 -- a block and, if bytes are left, the gap after it and a byte of the next block; the scan's order
 unfoldable pub ackStep : List ℕ → ℕ → ℕ → Taken
 ackStep s at largest =
-    if ltb 65527 (length s) then unmoved 14 at largest else
-    if leb (2 ^ 62) largest then unmoved 14 at largest else
+    if ltb maxDatagram (length s) then unmoved 14 at largest else
+    if leb numberEnd largest then unmoved 14 at largest else
     if leb (length s) at then record { step = end; largest = largest; next = at } else
     andThen (varAt s at) (unmoved 10 at largest) (λ block mid.
     if ltb largest block then unmoved 12 at largest else

@@ -1,10 +1,10 @@
 // ACK blocks (frame.rs, scan_ack_blocks and AckIter's step; RFC 9000, section 19.3.1). The scan ends by its bytes, whatever
 // count is declared: each round reads two integers, and the first that is cut ends it.
 use coding::MAX_DATAGRAM;
+use coding::NUMBER_END;
 use coding::Refusal;
 use coding::VarRead;
 use shared::FullNumber;
-use shared::NUMBER_END;
 ghost use mathlib.Core.Path.{_≡_};
 ghost use Prim.Native.Nat.{ℕ, suc};
 ghost use Rattle.coding.specs.Refusals.{numberOf};

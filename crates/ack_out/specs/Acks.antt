@@ -1,11 +1,11 @@
 -- The ACK frame of a list of ranges: RFC 9000, section 19.3; document 01, "Encoders".
-use Prim.Native.Nat.{ℕ, zero, suc, _+_, _-_, _*_, _/_, _%_, _^_}
+use Prim.Native.Nat.{ℕ, zero, suc, _+_, _-_, _*_, _/_, _%_}
 use mathlib.Core.List.{List, [], _∷_, map}
 use mathlib.Core.Bool.{Bool, true, false}
 use mathlib.Core.Option.{Option, none, some}
 use lib.ListN.{length, getD}
 use lib.Dec.{ltb, leb, eqb}
-use Rattle.coding.specs.Words.{if_then_else_, Answer, no}
+use Rattle.coding.specs.Words.{if_then_else_, Answer, no, numberEnd}
 use Rattle.ack.specs.Scan.{Range}
 use Rattle.frame.specs.Table.{table}
 use Rattle.row_out.specs.Writing.{Word, number, raw, nothing}
@@ -24,7 +24,7 @@ unfoldable pub isRanges : List ℕ → Bool
 isRanges l =
     if eqb (length l) 0 then false else
     if eqb (length l % 2) 1 then false else
-    if ltb (2 ^ 62) (getD l (length l - 1) 0) then false else
+    if ltb numberEnd (getD l (length l - 1) 0) then false else
     ascends l
 
 -- the range of pair i

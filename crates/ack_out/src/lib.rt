@@ -1,18 +1,19 @@
 // The ACK encoder (frame.rs, Ack::encode; RFC 9000, section 19.3). The ranges are a flat list of starts and ends, ascending, each
 // end past its range's largest number.
 use coding::MAX_DATAGRAM;
+use coding::NUMBER_END;
 use coding::Refusal;
 use coding::Sized;
 use coding::VarInt;
 use coding::Wrote;
 use frame::AckEcn;
 use shared::FrameType;
-use shared::NUMBER_END;
 ghost use mathlib.Core.Path.{_≡_};
 ghost use mathlib.Core.Bool.{true};
 ghost use mathlib.Core.List.{[]};
-ghost use Prim.Native.Nat.{_+_, _-_, _*_, _^_, _≤_, _<_};
+ghost use Prim.Native.Nat.{_+_, _-_, _*_, _≤_, _<_};
 ghost use lib.ListN.{length, getD};
+ghost use Rattle.coding.specs.Words.{maxDatagram, numberEnd};
 ghost use Rattle.coding.specs.Varint.{varSize};
 ghost use Rattle.coding.specs.Said.{sizedOf, wroteOf};
 ghost use Rattle.coding.specs.Writing.{lengthOf, Written, Put};
@@ -53,7 +54,7 @@ fn is_ranges(list: &[u64]) -> bool
 
 // The bytes of an integer that has a form.
 fn var_size(x: u64) -> usize
-    requires { ⌜ x < 2 ^ 62 ⌝ }
+    requires { ⌜ x < numberEnd ⌝ }
     ensures { λ r. ⌜ (r ≡ varSize x) × (r ≤ 8) ⌝ }
 {
     let Sized::Bytes(n) = VarInt(x).size() else {
@@ -65,14 +66,14 @@ fn var_size(x: u64) -> usize
 // A gap or a block: number i of the list minus the one before it, less one.
 fn step_at(list: &[u64], i: usize) -> u64
     requires { ⌜ (isRanges (now list) ≡ true) × ((0 < i) × (i < length (now list))) ⌝ }
-    ensures { λ r. ⌜ (r ≡ getD (now (list .entry)) i 0 - getD (now (list .entry)) (i - 1) 0 - 1) × (r < 2 ^ 62) ⌝ }
+    ensures { λ r. ⌜ (r ≡ getD (now (list .entry)) i 0 - getD (now (list .entry)) (i - 1) 0 - 1) × (r < numberEnd) ⌝ }
 {
     list[i] - list[i - 1] - 1
 }
 
 // The bytes of the blocks.
 fn blocks_len(list: &[u64]) -> usize
-    requires { ⌜ (isRanges (now list) ≡ true) × (length (now list) ≤ 65527) ⌝ }
+    requires { ⌜ (isRanges (now list) ≡ true) × (length (now list) ≤ maxDatagram) ⌝ }
     ensures { λ r. ⌜ (r ≡ length (blockBytes (allRanges (now (list .entry))))) × (r ≤ 8 * 65527) ⌝ }
 {
     let mut len = 0;

@@ -3,7 +3,7 @@ use Prim.Native.Nat.{ℕ, _+_, _-_, _*_, _/_, _%_, _^_}
 use mathlib.Core.List.{List, []}
 use lib.ListN.{length, take, drop}
 use lib.Dec.{ltb, leb}
-use Rattle.coding.specs.Words.{if_then_else_, Got, cut, got, Answer, no, ok}
+use Rattle.coding.specs.Words.{if_then_else_, Got, cut, got, Answer, no, ok, numberEnd}
 use Rattle.coding.specs.Bytes.{byteAt, be, bytesBE}
 
 -- the two most significant bits of the first byte are the base-2 logarithm of the length in bytes
@@ -32,7 +32,7 @@ varBytes x = bytesBE (varSize x) (varTag x * 2 ^ (8 * varSize x - 2) + x)
 
 -- from 2^62 on there is no form: 14
 unfoldable pub in62 : {A : Type 0} → ℕ → A → Answer A
-in62 x a = if ltb x (2 ^ 62) then ok a else no 14
+in62 x a = if ltb x numberEnd then ok a else no 14
 
 -- an integer made of x; the size that x is written with; what is written
 unfoldable pub varMade : ℕ → Answer ℕ
@@ -46,4 +46,4 @@ varOut x = in62 x (varBytes x)
 
 -- what a put of x stores
 unfoldable pub varPut : ℕ → List ℕ
-varPut x = if ltb x (2 ^ 62) then varBytes x else []
+varPut x = if ltb x numberEnd then varBytes x else []

@@ -1,5 +1,5 @@
 -- The words of every definition: a choice, what a read finds, and what a call answers.
-use Prim.Native.Nat.{ℕ}
+use Prim.Native.Nat.{ℕ, _^_}
 use mathlib.Core.Bool.{Bool, true, false}
 
 infixr 20 if_then_else_
@@ -26,3 +26,7 @@ pub data Answer (A : Type 0) : Type 0 where
 -- the most bytes of a datagram, packet, payload, header or frame: what UDP's length field leaves
 abbrev pub maxDatagram : ℕ
 maxDatagram = 65527
+
+-- packet numbers and integers are below this: RFC 9000, 12.3 and 16
+abbrev pub numberEnd : ℕ
+numberEnd = 2 ^ 62

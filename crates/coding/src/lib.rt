@@ -20,6 +20,12 @@ ghost use Rattle.coding.specs.Said.{u8Of, u16Of, u32Of, u64Of, varOf, pl
 // The longest datagram, packet, payload, header or frame: what UDP's length field leaves.
 pub const MAX_DATAGRAM: usize = 65_527;
 
+// Packet numbers and integers are below this.
+pub const NUMBER_END: u64 = 0x4000_0000_0000_0000;
+
+// The largest of them.
+pub const MAX_NUMBER: u64 = NUMBER_END - 1;
+
 // What a read finds: the value and the place past it, or the end of the input.
 pub enum U8Read {
     Num(u8, usize),
@@ -276,7 +282,7 @@ pub fn write_var(buf: &mut [u8], at: usize, x: u64) -> usize
     if x < 0x4000_0000 {
         return put_num(buf, at, 4, 0x8000_0000 + x);
     }
-    if x < 0x4000_0000_0000_0000 {
+    if x < NUMBER_END {
         return put_num(buf, at, 8, 0xc000_0000_0000_0000 + x);
     }
     at

@@ -1,4 +1,6 @@
 // Variable-length integers (varint.rs; RFC 9000, section 16).
+use crate::MAX_NUMBER;
+use crate::NUMBER_END;
 use crate::Refusal;
 use crate::Wrote;
 ghost use mathlib.Core.Path.{_≡_};
@@ -23,7 +25,7 @@ pub enum Sized {
 
 impl VarInt {
     // The largest representable value.
-    pub const MAX: VarInt = VarInt(0x3fff_ffff_ffff_ffff);
+    pub const MAX: VarInt = VarInt(MAX_NUMBER);
 
     // The largest encoded value length.
     pub const MAX_SIZE: usize = 8;
@@ -38,7 +40,7 @@ impl VarInt {
     pub fn from_u64(x: u64) -> VarMade
         ensures { λ r. ⌜ madeOf r ≡ varMade x ⌝ }
     {
-        if x < 0x4000_0000_0000_0000 {
+        if x < NUMBER_END {
             VarMade::Var(VarInt(x))
         } else {
             VarMade::Refused(Refusal::Argument)
@@ -65,7 +67,7 @@ impl VarInt {
         if x < 0x4000_0000 {
             return Sized::Bytes(4);
         }
-        if x < 0x4000_0000_0000_0000 {
+        if x < NUMBER_END {
             return Sized::Bytes(8);
         }
         Sized::Refused(Refusal::Argument)

@@ -1,7 +1,7 @@
 -- What each case of the code's answers says, in document 01's numbers and values.
-use Prim.Native.Nat.{ℕ, _+_, _-_, _^_}
+use Prim.Native.Nat.{ℕ, _+_, _-_}
 use lib.Dec.{ltb}
-use Rattle.coding.specs.Words.{if_then_else_, Answer, no, ok}
+use Rattle.coding.specs.Words.{if_then_else_, Answer, no, ok, numberEnd}
 use Rattle.coding.specs.Refusals.{numberOf}
 use Rattle.coding.specs.declared.refusal.Refusal.the-variants as ref
 use Rattle.ecn.specs.declared.Raise.{Raise}
@@ -14,4 +14,4 @@ raiseOf (Refused why) = no (numberOf why)
 
 -- the private step
 unfoldable pub moreOf : ℕ → Counted
-moreOf n = if ltb n (2 ^ 62 - 1) then (record { count = n + 1; answer = Done }) else (record { count = n; answer = Refused ref.Argument })
+moreOf n = if ltb n (numberEnd - 1) then (record { count = n + 1; answer = Done }) else (record { count = n; answer = Refused ref.Argument })

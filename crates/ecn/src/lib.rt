@@ -1,5 +1,6 @@
 // ECN counts, each raised by one where it stands (frame.rs, EcnCounts and its add_assign). A function that lends the counts is
 // proved by hand; `raised` does it for callers with plain values, which need no such proof.
+use coding::MAX_NUMBER;
 use coding::Refusal;
 use shared::EcnCodepoint;
 ghost use mathlib.Core.Path.{_≡_};
@@ -29,7 +30,7 @@ struct Counted {
 fn more(n: u64) -> Counted
     ensures { λ r. ⌜ r ≡ moreOf n ⌝ }
 {
-    if n < 0x3fff_ffff_ffff_ffff {
+    if n < MAX_NUMBER {
         Counted {
             count: n + 1,
             answer: Raise::Done,

@@ -8,6 +8,7 @@ use Rattle.coding.specs.Words.{if_then_else_, Got, cut, got, andThen, Answer, n
 use Rattle.coding.specs.Reading.{fixedAt, takeAt}
 use Rattle.coding.specs.Varint.{varAt}
 use Rattle.coding.specs.declared.Place.{Place}
+use Rattle.shared.specs.Cid.{maxCid}
 use Rattle.ack.specs.Scan.{scanAt}
 
 -- what a frame says: a number, a place in the payload, or that nothing is there
@@ -57,7 +58,7 @@ unfoldable pub cidAt : List ℕ → ℕ → Read Place
 cidAt s at =
     andThen (fixedAt 1 s at) (refuse 10) (λ l p.
     if eqb l 0 then refuse 12 else
-    if ltb 20 l then refuse 12 else
+    if ltb maxCid l then refuse 12 else
     andThen (takeAt l s p) (refuse 10) (λ id n. done id n))
 
 -- the place between two, the second of which a scan answers

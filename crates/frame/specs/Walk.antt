@@ -4,7 +4,7 @@ use mathlib.Core.List.{List, [], _∷_}
 use mathlib.Core.Option.{none}
 use lib.ListN.{length}
 use lib.Dec.{ltb, leb, eqb}
-use Rattle.coding.specs.Words.{if_then_else_}
+use Rattle.coding.specs.Words.{if_then_else_, maxDatagram}
 use Rattle.frame.specs.Table.{Row, FrameOutcome, taken, refused, frameAt}
 
 -- after a frame there is more from the place past it on; after a refusal there is nothing more
@@ -22,7 +22,7 @@ walkFrom rows s (suc turns) at =
 -- a payload past its rule is 14, one of no bytes 13
 unfoldable pub walk : List Row → List ℕ → List (ℕ × FrameOutcome)
 walk rows s =
-    if ltb 65527 (length s) then (0, refused 14 0 none) ∷ [] else
+    if ltb maxDatagram (length s) then (0, refused 14 0 none) ∷ [] else
     if eqb (length s) 0 then (0, refused 13 0 none) ∷ [] else
     walkFrom rows s (length s) 0
 
@@ -34,7 +34,7 @@ pub data WalkStep : Type 0 where
 
 unfoldable pub stepAt : List Row → List ℕ → ℕ → WalkStep
 stepAt rows s at =
-    if ltb 65527 (length s) then frame (refused 14 at none) else
+    if ltb maxDatagram (length s) then frame (refused 14 at none) else
     if eqb (length s) 0 then frame (refused 13 at none) else
     if leb (length s) at then end else
     frame (frameAt rows s at)

@@ -32,6 +32,7 @@ ghost use mathlib.Core.Bool.{true};
 ghost use mathlib.Core.List.{[], _∷_};
 ghost use Prim.Native.Nat.{_≤_};
 ghost use lib.ListN.{length};
+ghost use Rattle.coding.specs.Words.{maxDatagram};
 ghost use Rattle.shared.specs.Said.{dirBit};
 ghost use Rattle.frame.specs.Format.{num, place, orNothing, fieldsAt};
 ghost use Rattle.frame.specs.Table.{table, ackFields, ecnFields, countFields, streamFields, dataFields, frameBodyAt};
@@ -73,7 +74,7 @@ fn ack_ecn(s: &[u8], at: usize, largest: FullNumber, delay: u64, additional: Pla
 }
 
 fn ack(s: &[u8], at: usize, ecn: bool) -> Body
-    requires { ⌜ length (now s) ≤ 65527 ⌝ }
+    requires { ⌜ length (now s) ≤ maxDatagram ⌝ }
     ensures { λ r. ⌜ bodyOf r ≡ fieldsAt 0x02 (ackFields ecn) (now (s .entry)) at [] ⌝ }
 {
     let VarRead::Var(largest, p) = coding::get_var(s, at) else {
@@ -397,7 +398,7 @@ fn ack_frequency(s: &[u8], at: usize) -> Body
 
 // One decision over the type's number.
 pub(crate) fn read_body(s: &[u8], at: usize, ty: FrameType) -> Body
-    requires { ⌜ length (now s) ≤ 65527 ⌝ }
+    requires { ⌜ length (now s) ≤ maxDatagram ⌝ }
     ensures { λ r. ⌜ bodyOf r ≡ frameBodyAt table (ty .0) (now (s .entry)) at ⌝ }
 {
     let t = ty.0;

@@ -8,8 +8,9 @@ use coding::VarRead;
 use shared::FullNumber;
 use shared::MAX_CID_SIZE;
 ghost use mathlib.Core.Path.{_≡_};
-ghost use Prim.Native.Nat.{_<_, _≤_, _^_};
+ghost use Prim.Native.Nat.{_<_, _≤_};
 ghost use lib.ListN.{length};
+ghost use Rattle.coding.specs.Words.{maxDatagram, numberEnd};
 ghost use Rattle.coding.specs.Said.{varOf, placeOf};
 ghost use Rattle.frame.specs.Format.{bytesAt, allLeftAt, cidAt, blocksAt, varIf, dataIf, bit};
 ghost use Rattle.frame.specs.Said.{fieldOf};
@@ -61,7 +62,7 @@ pub(crate) fn cid(s: &[u8], at: usize) -> Field
 
 // A count, and the ACK blocks of so many rounds.
 pub(crate) fn ack_blocks(s: &[u8], at: usize, largest: FullNumber) -> Field
-    requires { ⌜ (largest .0 < 2 ^ 62) × (length (now s) ≤ 65527) ⌝ }
+    requires { ⌜ (largest .0 < numberEnd) × (length (now s) ≤ maxDatagram) ⌝ }
     ensures { λ r. ⌜ fieldOf r ≡ blocksAt (now (s .entry)) at (largest .0) ⌝ }
 {
     let VarRead::Var(count, p) = coding::get_var(s, at) else {

@@ -27,6 +27,7 @@ use shared::FrameType;
 ghost use mathlib.Core.Path.{_≡_};
 ghost use Prim.Native.Nat.{_-_, _≤_};
 ghost use lib.ListN.{length};
+ghost use Rattle.coding.specs.Words.{maxDatagram};
 ghost use Rattle.frame.specs.Table.{table, frameAt};
 ghost use Rattle.frame.specs.Walk.{stepAt, sized};
 ghost use Rattle.frame.specs.Said.{saidOf, stepOf, sizedStepOf};
@@ -59,7 +60,7 @@ pub struct SizedStep {
 
 // The frame at a place of a payload whose own rule `step` has tested.
 pub(crate) fn read_frame(s: &[u8], start: usize) -> FrameRead
-    requires { ⌜ length (now s) ≤ 65527 ⌝ }
+    requires { ⌜ length (now s) ≤ maxDatagram ⌝ }
     ensures { λ r. ⌜ saidOf r ≡ frameAt table (now (s .entry)) start ⌝ }
 {
     let VarRead::Var(number, at) = coding::get_var(s, start) else {

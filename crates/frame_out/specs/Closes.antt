@@ -1,10 +1,10 @@
 -- The closes, held to max bytes as the Rust counts them: document 01, "Encoders"; RFC 9000, 19.19.
-use Prim.Native.Nat.{ℕ, _+_, _-_, _^_}
+use Prim.Native.Nat.{ℕ, _+_, _-_}
 use mathlib.Core.List.{List, [], _∷_}
 use mathlib.Core.Bool.{Bool, true, false}
 use lib.ListN.{length, take}
 use lib.Dec.{ltb, leb}
-use Rattle.coding.specs.Words.{if_then_else_, Answer, no, ok}
+use Rattle.coding.specs.Words.{if_then_else_, Answer, no, ok, numberEnd}
 use Rattle.coding.specs.Varint.{varSize}
 use Rattle.frame.specs.Table.{table}
 use Rattle.row_out.specs.Writing.{Word, number, raw, wordNumber}
@@ -28,7 +28,7 @@ fixedFields (application code) n = 1 + varSize code + varSize n
 -- the reason is cut to what is left; 14 where the fixed fields are more than max, or the reason's length is no integer
 unfoldable pub reasonCut : ℕ → ℕ → List ℕ → Answer (List ℕ)
 reasonCut fixed max reason =
-    if ltb (length reason) (2 ^ 62) then
+    if ltb (length reason) numberEnd then
     (if leb fixed max then ok (take (max - fixed) reason) else no 14)
     else no 14
 

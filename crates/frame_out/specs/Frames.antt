@@ -6,7 +6,7 @@ use mathlib.Core.Bool.{Bool, true}
 use lib.Dec.{ltb, eqb}
 use Rattle.coding.specs.Words.{if_then_else_, Answer, no}
 use Rattle.coding.specs.Varint.{varBytes}
-use Rattle.shared.specs.Cid.{cidBytes}
+use Rattle.shared.specs.Cid.{maxCid, cidBytes}
 use Rattle.shared.specs.declared.cid.ConnectionId.{ConnectionId}
 use Rattle.frame.specs.Table.{flag, ecnFields, table}
 use Rattle.row_out.specs.Writing.{Word, number, raw, rowBytes, frameBytes}
@@ -54,7 +54,7 @@ unfoldable pub newCidOut : ℕ → ℕ → ConnectionId → List ℕ → Answer 
 newCidOut sequence retire id token =
     if ltb sequence retire then no 14 else
     if eqb (id .len) 0 then no 14 else
-    if ltb 20 (id .len) then no 14 else
+    if ltb maxCid (id .len) then no 14 else
     frameOut table 0x18 (number sequence ∷ number retire ∷ raw (cidBytes id) ∷ raw token ∷ [])
 
 -- RFC 9221: 31 with a length, 30 without

@@ -17,6 +17,7 @@ pub use codec::decode_type;
 pub use codec::encode_error_code;
 pub use codec::encode_stream_id;
 pub use codec::encode_type;
+use coding::NUMBER_END;
 use coding::Refusal;
 use coding::Sized;
 use coding::Wrote;
@@ -27,7 +28,6 @@ use frame::StopSending;
 use shared::ConnectionId;
 use shared::FrameType;
 use shared::MAX_CID_SIZE;
-use shared::NUMBER_END;
 use shared::StreamId;
 use shared::types;
 ghost use mathlib.Core.Path.{_≡_};
@@ -38,7 +38,7 @@ ghost use lib.Dec.{eqb};
 ghost use Rattle.coding.specs.Words.{if_then_else_};
 ghost use Rattle.coding.specs.Said.{sizedOf, wroteOf};
 ghost use Rattle.coding.specs.Writing.{lengthOf, Written};
-ghost use Rattle.shared.specs.Cid.{longBytes};
+ghost use Rattle.shared.specs.Cid.{maxCid, longBytes};
 ghost use Rattle.row_out.specs.Limits.{varsOut};
 ghost use Rattle.frame_out.specs.Bounds.{sizeBounds};
 ghost use Rattle.frame_out.specs.Frames.{ecnOut, streamType, metaOut, cryptoOut, newTokenOut, resetStreamOut, stopSendingOut, newCidOut, datagramOut, ackFrequencyOut};
@@ -160,7 +160,7 @@ pub const NEW_CONNECTION_ID_SIZE_BOUND: usize = 1 + 8 + 8 + 1 + MAX_CID_SIZE + 1
 
 // Writes integers, a connection id behind its length, and its reset token, from byte 0 of out on.
 fn frame_with_id(vals: &[u64], id: ConnectionId, reset_token: &[u8], out: &mut [u8]) -> Wrote
-    requires { ⌜ (id .len ≤ 20) × ((length (now vals) ≤ 3) × (length (now «reset_token») ≡ 16)) ⌝ }
+    requires { ⌜ (id .len ≤ maxCid) × ((length (now vals) ≤ 3) × (length (now «reset_token») ≡ 16)) ⌝ }
     ensures { λ r. ⌜ Written (varsOut (now (vals .entry)) (longBytes id ++ now («reset_token» .entry))) (now (out .entry)) (wroteOf r) (now (out .exit)) ⌝ }
 {
     let Sized::Bytes(n) = row_out::vars_len(vals) else {

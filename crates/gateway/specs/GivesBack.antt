@@ -11,10 +11,10 @@ use lib.Dec.{eqb}
 use Rattle.coding.specs.Words.{if_then_else_, Answer, no, ok}
 use Rattle.coding.specs.Places.{partOf}
 use Rattle.coding.specs.declared.Place.{Place}
-use Rattle.shared.specs.Cid.{cidOf}
+use Rattle.shared.specs.Cid.{cidOf, maxCid}
 use Rattle.number.specs.Cutting.{cut}
 use Rattle.number.specs.Ends.{Call, Packet, sendBy, acknowledgeBy, readBy, acceptBy}
-use Rattle.packet.specs.Header.{Header, initial, zeroRtt, handshake, retry, short, negotiate, Outcome, kindOf, isLong, spaceIn}
+use Rattle.packet.specs.Header.{maxVersions, Header, initial, zeroRtt, handshake, retry, short, negotiate, Outcome, kindOf, isLong, spaceIn}
 use Rattle.packet.specs.Walk.{Met, atEnd, packet, refusedAt, PacketStep, packetStepAt}
 use Rattle.protect.specs.Steps.{readOff, sampleAt, Opened, finishAt, finished, headerPlace, payloadPlace}
 use Rattle.protect.specs.Steps as opened
@@ -146,7 +146,7 @@ abbrev pub WrittenIsRead : Type 0
 WrittenIsRead =
     (h : HeaderGiven) (dst src token payload old : List ℕ) (w : HeaderAnswer) (new : List ℕ) (local : ℕ) (versions : List ℕ) (grease : Bool)
     → WritesHeader h dst src token (length payload) old w new → w .refusal ≡ 0 → h .version < 2 ^ 32
-    → Readable (plainFor h) (cidOf dst) local versions grease → local ≤ 20 → length versions ≤ 16
+    → Readable (plainFor h) (cidOf dst) local versions grease → local ≤ maxCid → length versions ≤ maxVersions
     → ReadBack h dst src token (length payload) w (take (w .«header_len») new ++ payload)
     (splitFor (take (w .«header_len») new ++ payload) 0 local versions (flag grease))
 

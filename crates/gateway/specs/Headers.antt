@@ -5,9 +5,9 @@ use mathlib.Core.List.{List}
 use mathlib.Core.Bool.{Bool, _||_}
 use lib.ListN.{length}
 use lib.Dec.{ltb, eqb}
-use Rattle.coding.specs.Words.{if_then_else_, Answer, no, ok}
+use Rattle.coding.specs.Words.{if_then_else_, Answer, no, ok, maxDatagram}
 use Rattle.coding.specs.Writing.{inRoom, lengthOf, intoBuffer}
-use Rattle.shared.specs.Cid.{cidOf}
+use Rattle.shared.specs.Cid.{maxCid, cidOf}
 use Rattle.number.specs.Cutting.{cut}
 use Rattle.protect.specs.Tests.{numberBytes}
 use Rattle.packet_out.specs.Encoding.{Plain, initial, zeroRtt, handshake, retry, short, negotiate, Partial, partialOf}
@@ -20,7 +20,7 @@ use Rattle.gateway.specs.declared.records.HeaderAnswer.{HeaderAnswer}
 -- payload
 unfoldable pub givenOutside : HeaderGiven → ℕ → ℕ → ℕ → ℕ → Bool
 givenOutside h dst src token n =
-    ltb 5 (h .kind) || ltb 1 (h .spin) || ltb 1 (h .«key_phase») || ltb 20 dst || ltb 20 src || ltb 65527 token || ltb 65527 n
+    ltb 5 (h .kind) || ltb 1 (h .spin) || ltb 1 (h .«key_phase») || ltb maxCid dst || ltb maxCid src || ltb maxDatagram token || ltb maxDatagram n
 
 -- the header by its kind; what a kind does not have is not looked at
 abbrev pub plainFor : HeaderGiven → Plain

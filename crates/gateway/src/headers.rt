@@ -7,6 +7,7 @@ use packet::LongType;
 use packet_out::Encoded;
 use packet_out::Header;
 use shared::CutNumber;
+use shared::MAX_CID_SIZE;
 ghost use mathlib.Core.Path.{_≡_};
 ghost use Rattle.packet_out.specs.Said.{plainOf, encodedOf};
 ghost use Rattle.gateway.specs.Headers.{givenOutside, plainFor, noHeader, writtenRecord};
@@ -30,10 +31,10 @@ pub(crate) fn is_outside(
     if 1 < h.key_phase {
         return true;
     }
-    if 20 < dst {
+    if MAX_CID_SIZE < dst {
         return true;
     }
-    if 20 < src {
+    if MAX_CID_SIZE < src {
         return true;
     }
     if MAX_DATAGRAM < token {

@@ -6,7 +6,7 @@ use mathlib.Core.Option.{Option, some}
 use mathlib.Core.Option as option
 use lib.ListN.{length}
 use lib.Dec.{ltb, leb, eqb}
-use Rattle.coding.specs.Words.{if_then_else_}
+use Rattle.coding.specs.Words.{if_then_else_, maxDatagram}
 use Rattle.coding.specs.Bytes.{byteAt}
 use Rattle.frame.specs.Format.{Value, num, place, none, Said, said}
 use Rattle.frame.specs.Table.{table, taken, refused}
@@ -113,7 +113,7 @@ frameFor s at = frameRecord at (stepAt table s at)
 
 -- it stands at a place of a payload that keeps its rule
 unfoldable pub isPadding : List ℕ → ℕ → Bool
-isPadding s at = if ltb 65527 (length s) then false else if leb (length s) at then false else eqb (byteAt s at) 0
+isPadding s at = if ltb maxDatagram (length s) then false else if leb (length s) at then false else eqb (byteAt s at) 0
 
 -- what it says, from its start up to the next frame's
 abbrev pub paddingRecord : ℕ → ℕ → FrameAnswer

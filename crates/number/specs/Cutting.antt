@@ -4,7 +4,7 @@ use mathlib.Core.Bool.{Bool}
 use mathlib.Core.List.{List, []}
 use lib.ListN.{take}
 use lib.Dec.{ltb, eqb}
-use Rattle.coding.specs.Words.{if_then_else_, Answer, no, ok}
+use Rattle.coding.specs.Words.{if_then_else_, Answer, no, ok, numberEnd}
 use Rattle.coding.specs.Bytes.{be, bytesBE}
 use Rattle.shared.specs.declared.kinds.CutNumber.{CutNumber}
 
@@ -36,7 +36,7 @@ cutTo n k = if eqb k 0 then no 16 else ok (cut k (n % windowOf k))
 -- 17.1: more than twice the range from the largest acknowledged on can be told apart
 unfoldable pub cutMade : ℕ → ℕ → Answer CutNumber
 cutMade n acked =
-    if ltb (2 ^ 62 - 1) n then no 14 else
+    if ltb (numberEnd - 1) n then no 14 else
     if ltb n acked then no 14 else
     cutTo n (bytesFor (2 * (n - acked)))
 

@@ -1,8 +1,8 @@
 -- The two number ends of a space: what a call says, and what it leaves.
-use Prim.Native.Nat.{ℕ, _+_, _-_, _^_}
+use Prim.Native.Nat.{ℕ, _+_, _-_}
 use mathlib.Core.Bool.{Bool, _&&_}
 use lib.Dec.{ltb, leb}
-use Rattle.coding.specs.Words.{if_then_else_, Answer, no, ok}
+use Rattle.coding.specs.Words.{if_then_else_, Answer, no, ok, numberEnd}
 use Rattle.shared.specs.declared.kinds.CutNumber.{CutNumber}
 use Rattle.number.specs.Cutting.{cutMade}
 use Rattle.number.specs.Expanding.{expanded}
@@ -38,10 +38,10 @@ freshEnds = record { next = 0; acked = none; largest = none }
 
 -- what calls can have made: what is acknowledged was sent; and no number is past 2^62 - 1
 unfoldable pub sendEnd : Ends → Bool
-sendEnd e = leb (e .next) (2 ^ 62) && leb (expectedOf (e .acked)) (e .next)
+sendEnd e = leb (e .next) numberEnd && leb (expectedOf (e .acked)) (e .next)
 
 unfoldable pub receiveEnd : Ends → Bool
-receiveEnd e = leb (expectedOf (e .largest)) (2 ^ 62)
+receiveEnd e = leb (expectedOf (e .largest)) numberEnd
 
 -- what a call says, and the ends that it leaves: after a refusal, as they were
 pub record Call (A : Type 0) : Type 0 where
@@ -80,5 +80,5 @@ readBy e c = expanded c (expectedOf (e .largest))
 unfoldable pub acceptBy : Ends → ℕ → Call Unit
 acceptBy e n =
     if receiveEnd e then
-    (if ltb (2 ^ 62 - 1) n then refused 14 e else done tt (record { next = e .next; acked = e .acked; largest = largerOf (e .largest) n }))
+    (if ltb (numberEnd - 1) n then refused 14 e else done tt (record { next = e .next; acked = e .acked; largest = largerOf (e .largest) n }))
     else refused 14 e

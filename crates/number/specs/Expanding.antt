@@ -1,8 +1,8 @@
 -- Cut numbers read back: RFC 9000, A.3, and the Rust's PacketNumber::expand. w is the window 2^(8k), v the value, e the expected number.
-use Prim.Native.Nat.{ℕ, _+_, _-_, _/_, _%_, _^_}
+use Prim.Native.Nat.{ℕ, _+_, _-_, _/_, _%_}
 use mathlib.Core.Bool.{_&&_}
 use lib.Dec.{ltb, leb}
-use Rattle.coding.specs.Words.{if_then_else_, Answer, no, ok}
+use Rattle.coding.specs.Words.{if_then_else_, Answer, no, ok, numberEnd}
 use Rattle.shared.specs.declared.kinds.CutNumber.{CutNumber}
 use Rattle.number.specs.Cutting.{windowOf, isCut}
 
@@ -14,7 +14,7 @@ candidate w v e = e - e % w + v
 unfoldable pub decodeA3 : ℕ → ℕ → ℕ → ℕ
 decodeA3 w v e =
     let c = candidate w v e in
-    if leb (c + w / 2) e && ltb (c + w) (2 ^ 62) then c + w else
+    if leb (c + w / 2) e && ltb (c + w) numberEnd then c + w else
     if ltb (e + w / 2) c && leb w c then c - w else
     c
 
@@ -28,4 +28,4 @@ nearestTo w v e =
 
 -- 14 outside the rule of a cut number, and for an expected number past 2^62
 unfoldable pub expanded : CutNumber → ℕ → Answer ℕ
-expanded c e = if isCut c then (if ltb (2 ^ 62) e then no 14 else ok (nearestTo (windowOf (c .0)) (c .1) e)) else no 14
+expanded c e = if isCut c then (if ltb numberEnd e then no 14 else ok (nearestTo (windowOf (c .0)) (c .1) e)) else no 14

@@ -3,6 +3,8 @@
 // largest; an end that no calls can have made is 14.
 use crate::CutMade;
 use crate::FullRead;
+use coding::MAX_NUMBER;
+use coding::NUMBER_END;
 use coding::Refusal;
 use shared::CutNumber;
 use shared::FullNumber;
@@ -70,7 +72,7 @@ fn send_end(s: Space) -> bool
 {
     let next = s.next;
     let acked = s.acked;
-    if 0x4000_0000_0000_0000 < next.0 {
+    if NUMBER_END < next.0 {
         return false;
     }
     let Largest::At(m) = acked else {
@@ -90,7 +92,7 @@ fn receive_end(s: Space) -> bool
     let Largest::At(m) = largest else {
         return true;
     };
-    if 0x3fff_ffff_ffff_ffff < m.0 {
+    if MAX_NUMBER < m.0 {
         return false;
     }
     true
@@ -162,7 +164,7 @@ impl Space {
         let Largest::At(m) = largest else {
             return crate::expand(c, 0);
         };
-        if 0x3fff_ffff_ffff_ffff < m.0 {
+        if MAX_NUMBER < m.0 {
             return FullRead::Refused(Refusal::Argument);
         }
         let expected = m.0 + 1;
@@ -180,7 +182,7 @@ impl Space {
         if !receive_end(self) {
             return SpaceAnswer::Refused { why, space: self };
         }
-        if 0x3fff_ffff_ffff_ffff < n.0 {
+        if MAX_NUMBER < n.0 {
             return SpaceAnswer::Refused { why, space: self };
         }
         SpaceAnswer::Done(Space {

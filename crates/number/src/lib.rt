@@ -2,6 +2,8 @@
 // rule is refused 14 by whatever can refuse.
 mod ends; // ends.rt: the two number ends of a space
 
+use coding::MAX_NUMBER;
+use coding::NUMBER_END;
 use coding::Refusal;
 use coding::Wrote;
 pub use ends::Largest;
@@ -12,6 +14,7 @@ use shared::CutNumber;
 use shared::FullNumber;
 ghost use mathlib.Core.Path.{_≡_};
 ghost use Prim.Native.Nat.{_^_, _≤_, _<_};
+ghost use Rattle.coding.specs.Words.{numberEnd};
 ghost use Rattle.coding.specs.Bytes.{bytesBE};
 ghost use Rattle.coding.specs.Said.{wroteOf};
 ghost use Rattle.coding.specs.Writing.{Written, Put};
@@ -90,7 +93,7 @@ pub fn new(n: FullNumber, largest_acked: FullNumber) -> CutMade
 {
     let number = n.0;
     let acked = largest_acked.0;
-    if 0x3fff_ffff_ffff_ffff < number {
+    if MAX_NUMBER < number {
         return CutMade::Refused(Refusal::Argument);
     }
     if number < acked {
@@ -173,7 +176,7 @@ pub fn tag(c: CutNumber) -> Tagged
 
 // The number with this value in its last bytes that is nearest to the expected one.
 fn nearest(win: u64, value: u64, expected: u64) -> u64
-    requires { ⌜ (value < win) × (win ≤ 2 ^ 32) × (expected ≤ 2 ^ 62) ⌝ }
+    requires { ⌜ (value < win) × (win ≤ 2 ^ 32) × (expected ≤ numberEnd) ⌝ }
     ensures { λ r. ⌜ r ≡ nearestTo win value expected ⌝ }
 {
     let hwin = win / 2;
@@ -195,7 +198,7 @@ pub fn expand(c: CutNumber, expected: u64) -> FullRead
     if !is_cut(c) {
         return FullRead::Refused(Refusal::Argument);
     }
-    if 0x4000_0000_0000_0000 < expected {
+    if NUMBER_END < expected {
         return FullRead::Refused(Refusal::Argument);
     }
     let n = nearest(window(c.0), c.1 as u64, expected);

@@ -9,7 +9,7 @@ use Rattle.coding.specs.Words.{if_then_else_}
 use Rattle.coding.specs.Varint.{varSize}
 use Rattle.coding.specs.declared.Place.{Place}
 use Rattle.shared.specs.FirstByte.{longHeaderForm, fixedBit}
-use Rattle.shared.specs.Cid.{cidOf, cidBytes}
+use Rattle.shared.specs.Cid.{cidOf, cidBytes, maxCid}
 use Rattle.shared.specs.declared.cid.ConnectionId.{ConnectionId}
 use Rattle.packet.specs.Header.{Header, Outcome, headed, listed}
 use Rattle.packet.specs.Header as read
@@ -72,8 +72,8 @@ Readable (negotiate random) dst local versions grease = (grease ≡ true) ⊎ (r
 -- what the types say of the arguments: a version has 32 bits, a connection id an array of 20
 pub record Typed (p : Plain) (dst src : ConnectionId) : Type 0 where
   pub version : versionRead p < 2 ^ 32
-  pub to : length (dst .bytes) ≡ 20
-  pub from : length (src .bytes) ≡ 20
+  pub to : length (dst .bytes) ≡ maxCid
+  pub from : length (src .bytes) ≡ maxCid
 
 -- ---- what finish answers of a packet with a number: the number, reserved bits that are clear, and a short packet's key phase
 

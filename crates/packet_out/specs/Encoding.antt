@@ -11,7 +11,7 @@ use Rattle.coding.specs.Bytes.{bytesBE}
 use Rattle.coding.specs.Varint.{varBytes}
 use Rattle.coding.specs.Writing.{inRoom, lengthOf, intoBuffer}
 use Rattle.shared.specs.FirstByte.{longHeaderForm, fixedBit, spinBit, keyPhaseBit}
-use Rattle.shared.specs.Cid.{cidBytes, longBytes}
+use Rattle.shared.specs.Cid.{cidBytes, longBytes, maxCid}
 use Rattle.shared.specs.declared.cid.ConnectionId.{ConnectionId}
 use Rattle.shared.specs.declared.kinds.CutNumber.{CutNumber}
 use Rattle.number.specs.Cutting.{isCut, lengthBits, cutBytes}
@@ -119,7 +119,7 @@ numberKeeps (some c) = isCut c
 
 -- the connection ids and the number keep their rules
 unfoldable pub keepRules : Option CutNumber → ConnectionId → ConnectionId → Bool
-keepRules number dst src = leb (dst .len) 20 && leb (src .len) 20 && numberKeeps number
+keepRules number dst src = leb (dst .len) maxCid && leb (src .len) maxCid && numberKeeps number
 
 -- a header has at most 65,527 bytes: past that it is 14
 unfoldable pub inHeader : {A : Type 0} → List ℕ → A → Answer A

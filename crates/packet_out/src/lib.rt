@@ -22,7 +22,7 @@ ghost use Rattle.coding.specs.Words.{maxDatagram};
 ghost use Rattle.coding.specs.Bytes.{bytesBE};
 ghost use Rattle.coding.specs.Said.{sizedOf};
 ghost use Rattle.coding.specs.Writing.{Put};
-ghost use Rattle.shared.specs.Cid.{cidOf, longBytes};
+ghost use Rattle.shared.specs.Cid.{maxCid, cidOf, longBytes};
 ghost use Rattle.protect.specs.Said.{numberLenOf};
 ghost use Rattle.protect.specs.Tests.{numberBytes};
 ghost use Rattle.packet_out.specs.Encoding.{Encodes, EncodesAs, namesBytes, tokenBytes, lengthBytes, numberField, placeholder, numberKeeps, keepRules, numberLenIn, inHeader};
@@ -77,7 +77,7 @@ fn keep_rules(number: HeaderNumber, dst_cid: &[u8], src_cid: &[u8]) -> bool
 
 // The bytes of the version and the connection ids.
 fn names_size(version: Version, dst_cid: &[u8], src_cid: &[u8]) -> usize
-    requires { ⌜ (length (now «dst_cid») ≤ 20) × (length (now «src_cid») ≤ 20) ⌝ }
+    requires { ⌜ (length (now «dst_cid») ≤ maxCid) × (length (now «src_cid») ≤ maxCid) ⌝ }
     ensures { λ r. ⌜ (r ≡ length (namesBytes (versionOf version) (cidOf (now («dst_cid» .entry))) (cidOf (now («src_cid» .entry))))) × (r ≤ 46) ⌝ }
 {
     match version {
@@ -144,7 +144,7 @@ fn size(form: Form, number: HeaderNumber, dst_cid: &[u8], src_cid: &[u8], token:
 
 // Puts a connection id behind its length.
 fn put_long(cid: &[u8], buf: &mut [u8], at: usize) -> usize
-    requires { ⌜ (length (now cid) ≤ 20) × (at + length (longBytes (cidOf (now cid))) ≤ length (now buf)) ⌝ }
+    requires { ⌜ (length (now cid) ≤ maxCid) × (at + length (longBytes (cidOf (now cid))) ≤ length (now buf)) ⌝ }
     ensures { λ r. ⌜ Put (longBytes (cidOf (now (cid .entry)))) (now (buf .entry)) at r (now (buf .exit)) ⌝ }
 {
     let next = coding::put_u8(buf, at, cid.len() as u8);
@@ -153,7 +153,7 @@ fn put_long(cid: &[u8], buf: &mut [u8], at: usize) -> usize
 
 // Puts the version and both connection ids, or a short header's one.
 fn put_names(version: Version, dst_cid: &[u8], src_cid: &[u8], buf: &mut [u8], at: usize) -> usize
-    requires { ⌜ ((length (now «dst_cid») ≤ 20) × (length (now «src_cid») ≤ 20)) × (at + length (namesBytes (versionOf version) (cidOf (now «dst_cid»)) (cidOf (now «src_cid»))) ≤ length (now buf)) ⌝ }
+    requires { ⌜ ((length (now «dst_cid») ≤ maxCid) × (length (now «src_cid») ≤ maxCid)) × (at + length (namesBytes (versionOf version) (cidOf (now «dst_cid»)) (cidOf (now «src_cid»))) ≤ length (now buf)) ⌝ }
     ensures { λ r. ⌜ Put (namesBytes (versionOf version) (cidOf (now («dst_cid» .entry))) (cidOf (now («src_cid» .entry)))) (now (buf .entry)) at r (now (buf .exit)) ⌝ }
 {
     let Version::Long(number) = version else {

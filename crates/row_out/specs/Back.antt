@@ -3,7 +3,8 @@ use Prim.Native.Nat.{ℕ, suc, _+_, _≤_, _<_, _^_}
 use mathlib.Core.Path.{_≡_}
 use mathlib.Core.List.{List, [], _∷_, _++_, map}
 use lib.ListN.{length}
-use Rattle.coding.specs.Words.{ok}
+use Rattle.shared.specs.Cid.{maxCid}
+use Rattle.coding.specs.Words.{ok, numberEnd, maxDatagram}
 use Rattle.coding.specs.Places.{partOf}
 use Rattle.coding.specs.Varint.{varSize}
 use Rattle.ack.specs.Scan.{scanAt}
@@ -22,16 +23,16 @@ asWord s none = nothing
 -- the word fits the field, after the values `seen` (the last one first) and before the bytes q: a number its rule, a length
 -- its rule, ACK blocks what the scan takes whole; nothing stands behind `rest`; a word that the type itself says is what it says
 abbrev pub Fits : Field → Word → List Value → List ℕ → Type 0
-Fits var w seen q = wordNumber w < 2 ^ 62
-Fits orNone w seen q = wordNumber w < 2 ^ 62
-Fits atMost w seen q = (wordNumber w < 2 ^ 62) × (wordNumber w ≤ lastRead seen)
-Fits bytes w seen q = length (wordBytes w) < 2 ^ 62
+Fits var w seen q = wordNumber w < numberEnd
+Fits orNone w seen q = wordNumber w < numberEnd
+Fits atMost w seen q = (wordNumber w < numberEnd) × (wordNumber w ≤ lastRead seen)
+Fits bytes w seen q = length (wordBytes w) < numberEnd
 Fits rest w seen q = q ≡ []
 Fits (fixed k) w seen q = length (wordBytes w) ≡ k
 Fits num64 w seen q = wordNumber w < 2 ^ 64
-Fits cid w seen q = (0 < length (wordBytes w)) × (length (wordBytes w) ≤ 20)
+Fits cid w seen q = (0 < length (wordBytes w)) × (length (wordBytes w) ≤ maxCid)
 Fits ackBlocks w seen q =
-    (roundsIn (wordBytes w) < 2 ^ 62) × (scanAt (wordBytes w) 0 (lastButOne seen) (roundsIn (wordBytes w)) ≡ ok (length (wordBytes w)))
+    (roundsIn (wordBytes w) < numberEnd) × (scanAt (wordBytes w) 0 (lastButOne seen) (roundsIn (wordBytes w)) ≡ ok (length (wordBytes w)))
 Fits (const n) w seen q = w ≡ number n
 Fits absent w seen q = w ≡ nothing
 
@@ -92,7 +93,7 @@ wordsRead (f ∷ fs) (w ∷ ws) = wordRead f w ∷ wordsRead fs ws
 -- it, and so does the walk, which goes on from that place; its values say the words ws; it is no longer than its bound, besides data
 pub record ReadAs (rows : List Row) (t name : ℕ) (ws : List Word) (p bs q : List ℕ) : Type 0 where
   pub values : List Value
-  pub read : length (p ++ (bs ++ q)) ≤ 65527 → stepAt rows (p ++ (bs ++ q)) (length p) ≡ frame (taken t (said name values) (length p + length bs))
+  pub read : length (p ++ (bs ++ q)) ≤ maxDatagram → stepAt rows (p ++ (bs ++ q)) (length p) ≡ frame (taken t (said name values) (length p + length bs))
   pub walked : (turns : ℕ) → walkFrom rows (p ++ (bs ++ q)) (suc turns) (length p)
       ≡ (length p, taken t (said name values) (length p + length bs)) ∷ walkFrom rows (p ++ (bs ++ q)) turns (length p + length bs)
   pub say : map (asWord (p ++ (bs ++ q))) values ≡ ws

@@ -2,6 +2,7 @@
 use Prim.Native.Nat.{ℕ, _+_}
 use mathlib.Core.List.{List, [], _∷_}
 use lib.ListN.{length}
+use Rattle.shared.specs.Cid.{maxCid}
 use Rattle.coding.specs.Varint.{varSize}
 use Rattle.frame.specs.Format.{Field, var, orNone, atMost, bytes, rest, fixed, num64, cid, ackBlocks, const, absent}
 use Rattle.frame.specs.Table.{Row, look}
@@ -16,7 +17,7 @@ fieldBound bytes = 8
 fieldBound rest = 0
 fieldBound (fixed n) = n
 fieldBound num64 = 8
-fieldBound cid = 1 + 20
+fieldBound cid = 1 + maxCid
 fieldBound ackBlocks = 8
 fieldBound (const n) = 0
 fieldBound absent = 0

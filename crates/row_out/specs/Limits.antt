@@ -1,10 +1,10 @@
 -- What a frame's writer may be given and may write: document 01, "Numbers we hold to".
-use Prim.Native.Nat.{ℕ, _^_}
+use Prim.Native.Nat.{ℕ}
 use mathlib.Core.List.{List, [], _∷_, _++_}
 use mathlib.Core.Bool.{Bool, true, false}
 use lib.ListN.{length}
 use lib.Dec.{ltb, leb}
-use Rattle.coding.specs.Words.{if_then_else_, Answer, no, ok}
+use Rattle.coding.specs.Words.{if_then_else_, Answer, no, ok, numberEnd, maxDatagram}
 use Rattle.coding.specs.Varint.{varBytes}
 use Rattle.frame.specs.Table.{Row}
 use Rattle.row_out.specs.Writing.{Word, number, raw, nothing, frameBytes}
@@ -12,11 +12,11 @@ use Rattle.row_out.specs.Writing.{Word, number, raw, nothing, frameBytes
 -- each integer is at most 2^62 - 1
 unfoldable pub below62 : List ℕ → Bool
 below62 [] = true
-below62 (x ∷ xs) = if ltb x (2 ^ 62) then below62 xs else false
+below62 (x ∷ xs) = if ltb x numberEnd then below62 xs else false
 
 -- a frame has at most 65,527 bytes: past that it is 14
 unfoldable pub inFrame : List ℕ → Answer (List ℕ)
-inFrame bs = if leb (length bs) 65527 then ok bs else no 14
+inFrame bs = if leb (length bs) maxDatagram then ok bs else no 14
 
 -- the bytes bs, which say the integers xs: 14 where one of them is past its limit
 unfoldable pub limited : List ℕ → List ℕ → Answer (List ℕ)

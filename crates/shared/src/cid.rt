@@ -11,16 +11,19 @@ ghost use lib.ListN.{length};
 ghost use Rattle.coding.specs.Refusals.{numberOf};
 ghost use Rattle.coding.specs.Said.{placeOf, wroteOf};
 ghost use Rattle.coding.specs.Writing.{Written, Put};
-ghost use Rattle.shared.specs.Cid.{cidOf, noCid, cidOn, longCidAt, cidNew, cidFrom, cidLong, cidPut, longPut, longOut};
+ghost use Rattle.shared.specs.Cid.{maxCid, cidOf, noCid, cidOn, longCidAt, cidNew, cidFrom, cidLong, cidPut, longPut, longOut};
 ghost use Rattle.shared.specs.Said.{cidReadOf};
 
 // The largest length of a connection id, in bytes.
 pub const MAX_CID_SIZE: usize = 20;
 
+// The same, as a length byte.
+const LONGEST_CID: u8 = MAX_CID_SIZE as u8;
+
 // Protocol-level identifier for a connection: its length, and its bytes with zeros past them.
 pub struct ConnectionId {
     pub len: u8,
-    pub bytes: [u8; 20],
+    pub bytes: [u8; MAX_CID_SIZE],
 }
 
 // The place past a CID that was read, or a refusal.
@@ -42,7 +45,7 @@ pub fn long_place(s: &[u8], at: usize) -> PlaceRead
     let U8Read::Num(len, next) = coding::get_u8(s, at) else {
         return PlaceRead::End;
     };
-    if 20 < len {
+    if LONGEST_CID < len {
         return PlaceRead::End;
     }
     coding::take(s, next, len as u64)
@@ -60,10 +63,10 @@ fn refused(why: Refusal) -> CidRead
 
 // The CID of these bytes.
 fn filled(bytes: &[u8]) -> ConnectionId
-    requires { ⌜ length (now bytes) ≤ 20 ⌝ }
+    requires { ⌜ length (now bytes) ≤ maxCid ⌝ }
     ensures { λ r. ⌜ r ≡ cidOf (now (bytes .entry)) ⌝ }
 {
-    let mut all = [0u8; 20];
+    let mut all = [0u8; MAX_CID_SIZE];
     let mut i = 0;
     while i < bytes.len() {
         all[i] = bytes[i];
@@ -81,7 +84,7 @@ impl ConnectionId {
     {
         ConnectionId {
             len: 0,
-            bytes: [0u8; 20],
+            bytes: [0u8; MAX_CID_SIZE],
         }
     }
 

@@ -1,15 +1,11 @@
 // Kinds of number that are not to be taken for each other (lib.rs; frame.rs; packet.rs, PacketNumber).
 use crate::types;
 use coding::Refusal;
-use coding::VarInt;
 ghost use mathlib.Core.Path.{_≡_};
 ghost use Prim.Native.Nat.{_-_, _≤_};
 ghost use lib.Dec.{eqb};
 ghost use Rattle.shared.specs.Streams.{initiatorOf, dirOf, indexOf, streamMade};
 ghost use Rattle.shared.specs.Said.{sideBit, dirBit, streamOf};
-
-// One past the largest integer, stream offset or packet number: 2^62.
-pub const NUMBER_END: u64 = VarInt::MAX.0 + 1;
 
 // Whether an endpoint was the initiator of a connection.
 pub enum Side {

@@ -23,7 +23,6 @@ pub use kinds::CutNumber;
 pub use kinds::Dir;
 pub use kinds::FrameType;
 pub use kinds::FullNumber;
-pub use kinds::NUMBER_END;
 pub use kinds::Side;
 pub use kinds::StreamId;
 pub use kinds::StreamMade;
