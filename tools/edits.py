@@ -77,8 +77,10 @@ ERRORS = [
     (r'`omega`', '`omega` finds no proof', True),
     (r'no proof was found|`search`', '`search` finds no proof', True),
     (r'differ only where one has (`[^`]*`)[^`]*and the other has (`[^`]*`)', r'expected \1, found \2', True),
+    (r'differ only where one has', 'the two sides are not equal', True),
     (r'two types are (`[^`]*`) \(expected\) and (`[^`]*`) \(found\)', r'expected \1, found \2', True),
     (r'no occurrence of', 'what is rewritten is not there', True),
+    (r'asks for a part', 'it is not proved without a file any more', True),
     (r'two ends are equal|the two types|but this has type|BoundaryMismatch', 'the two sides are not equal', True),
 ]
 
@@ -86,7 +88,10 @@ ERRORS = [
 def first_error(log):
     """(file below the crate, declaration, message) of the first error in a check's output, or None."""
     m = re.search(r'(?m)^(\S+?):\d+:\d+: error(?:: `([^`]+)`:|:)?(.*(?:\n  .*)*)', log)
-    return m and (re.sub(r'.*?/((?:src|specs|proofs)/)', r'\1', m[1]), m[2] or '', m[3].strip())
+    if not m:  # a function that needs no file of its own, and now a part is left to prove
+        m = re.search(r'(?m)^help: write \S*?/(proofs/\S+/Proof\.antt) with these lines(?:.*\n)*?(?=.* = \?$)', log)
+        return m and (m[1], '', 'asks for a part')
+    return re.sub(r'.*?/((?:src|specs|proofs)/)', r'\1', m[1]), m[2] or '', m[3].strip()
 
 
 def kind_of(message):
