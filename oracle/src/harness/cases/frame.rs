@@ -207,7 +207,7 @@ fn ackscan(r: &mut Rng) -> String {
 
 /// Blocks of a run, whole or damaged; or anything.
 fn ackiter(r: &mut Rng) -> String {
-    if r.one_in(3_000) {
+    if r.one_in(800) {
         let b = long_blocks(r);
         return format!("{} {}", around_62(r), hex(&b));
     }
