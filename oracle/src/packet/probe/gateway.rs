@@ -250,7 +250,7 @@ fn header_refused(words: &Words, payload: usize, room: usize) -> Option<Refused>
     words.refused().or_else(|| {
         let step = before(words, payload);
         let fits = step.header_len <= room;
-        step.refused().or_else(|| step.length_refused()).or_else(|| if fits { None } else { Some((15, SHORT_BUFFER)) })
+        step.refused().or_else(|| step.length_refused()).or((!fits).then_some((15, SHORT_BUFFER)))
     })
 }
 
