@@ -71,15 +71,15 @@ pub(crate) fn five(mask: &[u8]) -> [u8; 5]
     [mask[0], mask[1], mask[2], mask[3], mask[4]]
 }
 
-fn header_has(kind: u8, spin: u8, random: u8, length: u64, token: Place) -> HeaderNumbers
-    ensures { λ r. ⌜ r ≡ headerHas kind spin random length token ⌝ }
+fn header_has(kind: u8, spin: u8, random: u8, len: u64, token: Place) -> HeaderNumbers
+    ensures { λ r. ⌜ r ≡ headerHas kind spin random len token ⌝ }
 {
     HeaderNumbers {
         refusal: 0,
         kind,
         spin,
         random,
-        length,
+        length: len,
         token: Span {
             start: token.start,
             len: token.len,

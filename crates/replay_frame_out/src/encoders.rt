@@ -202,8 +202,8 @@ fn ecn_of(b: &[u8]) -> AckEcn {
     })
 }
 
-fn ack(delay: u64, counts: &[u8], ranges: &[u8], buf: &mut [u8]) -> Wrote {
+fn ack(delay: u64, counts: &[u8], pairs: &[u8], buf: &mut [u8]) -> Wrote {
     let mut list = [0u64; 16_384];
-    let n = numbers(ranges, &mut list);
+    let n = numbers(pairs, &mut list);
     ack_out::ack(delay, &list[..n], ecn_of(counts), buf)
 }

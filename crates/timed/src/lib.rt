@@ -227,10 +227,10 @@ pub extern "C" fn guobbarel_timed_connection_close(
 
 // Without ECN counts.
 #[no_mangle]
-pub extern "C" fn guobbarel_timed_ack(delay: u64, ranges: &[u64], out: &mut [u8]) -> WriteAnswer
-    ensures { λ r. ⌜ Writes (ackOut delay (now (ranges .entry)) none) (now (out .entry)) r (now (out .exit)) ⌝ }
+pub extern "C" fn guobbarel_timed_ack(delay: u64, list: &[u64], out: &mut [u8]) -> WriteAnswer
+    ensures { λ r. ⌜ Writes (ackOut delay (now (list .entry)) none) (now (out .entry)) r (now (out .exit)) ⌝ }
 {
-    written(ack_out::ack(delay, ranges, AckEcn::Nothing, out))
+    written(ack_out::ack(delay, list, AckEcn::Nothing, out))
 }
 
 #[no_mangle]
