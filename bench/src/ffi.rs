@@ -1,6 +1,7 @@
 //! The boundary to `libtimed.a`: the C functions of `crates/timed`, which are for this program alone, and a safe call for each. All
 //! of the program's `unsafe` is here; each call is sound for the reasons that `host/src/ffi.rs` gives.
 #![allow(unsafe_code)]
+use core::mem::{offset_of, size_of};
 
 #[repr(C)]
 struct GatheredAnswer {
@@ -28,6 +29,15 @@ impl WriteAnswer {
         (self.refusal == 0).then_some(self.len)
     }
 }
+
+// as `crates/timed` lays them out
+const _: () = {
+    assert!(size_of::<GatheredAnswer>() == 24 && offset_of!(GatheredAnswer, refusal) == 0);
+    assert!(offset_of!(GatheredAnswer, count) == 8 && offset_of!(GatheredAnswer, mixed) == 16);
+    assert!(
+        size_of::<WriteAnswer>() == 16 && offset_of!(WriteAnswer, refusal) == 0 && offset_of!(WriteAnswer, len) == 8
+    );
+};
 
 unsafe extern "C" {
     fn guobbarel_timed_read_vars(bytes: *const u8, bytes_len: usize) -> GatheredAnswer;

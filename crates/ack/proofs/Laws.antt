@@ -27,11 +27,6 @@ pub var-small : (s : List ℕ) (at : ℕ) (r : VarRead) (v : VarInt) (n : ℕ) �
 unfolding varOf
 var-small s at r v n o p q = var-below s at (v .0) n o (sym (rw q at p))
 
--- and ends past its start and inside
-pub var-past : (s : List ℕ) (at : ℕ) (r : VarRead) (v : VarInt) (n : ℕ) → varOf r ≡ varAt s at → r ≡ var.Var v n → (at < n) × (n ≤ length s)
-unfolding varOf
-var-past s at r v n p q = var-inside s at (v .0) n (sym (rw q at p))
-
 pub none : (s : List ℕ) (n at smallest : ℕ) → n ≤ 0 → rounds s n at smallest ≡ ok at
 unfolding rounds
 none s zero at smallest h = refl

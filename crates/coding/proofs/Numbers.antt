@@ -1,8 +1,9 @@
--- A refusal's number tells it apart from all others.
+-- A refusal's number tells it apart from all others, and from 0, which is none.
 use mathlib.Core.Path.{_≡_, refl, sym, ap, _∙_}
 use Prim.Native.Nat.{ℕ}
 use mathlib.Core.Bool.{cond}
 use lib.Dec.{eqb}
+use Rattle.coding.specs.Words.{Answer, no, ok}
 use Rattle.coding.specs.Refusals.{numberOf}
 use Rattle.coding.specs.declared.refusal.Refusal.{Refusal}
 use Rattle.coding.specs.declared.refusal.Refusal.the-variants as ref
@@ -46,3 +47,8 @@ refusal-back ref.TooFar = refl
 
 pub one-refusal : (r s : Refusal) → numberOf r ≡ numberOf s → r ≡ s
 one-refusal r s e = sym (refusal-back r) ∙ ap refusalOf e ∙ refusal-back s
+
+-- an answer that is a value, or a refusal with a number that is not 0
+abbrev pub Refuses : {A : Type 0} → Answer A → Type 0
+Refuses (ok a) = Unit
+Refuses (no k) = k ≡ 0 → ⊥

@@ -51,9 +51,6 @@ next-some (packet start len) next e = record { start = start; len = len; is = re
 next-some (refusedAt start) next e = let z : _≡_ {A = ℕ} 0 1 = cc in absurd (omega arith)
 
 module _ (s : List ℕ) (at n : ℕ) where
-  abbrev steps : ℕ → List PacketStep
-  steps k = repeated k s at 0 (1 ∷ []) false
-
   after-more : (m : Met) (start len : ℕ) (rest : List ℕ) → m ≡ packet start len → afterOf m rest ≡ rest
   unfolding afterOf
   after-more m start len rest e = rw e

@@ -7,15 +7,15 @@ use Prim.Native.Nat.{ℕ, zero, suc, _+_, _-_, _<_, _^_}
 use native.Mathlib.Omega.{arith}
 use lib.ListN.{length, take}
 use lib.Dec.{eqb}
-use borrow.Author.Tests.{eqb-true, ne-eqb}
+use borrow.Author.Tests.{eqb-true}
 use Rattle.coding.specs.Words.{if_then_else_, ok}
 use Rattle.coding.specs.Varint.{varBytes}
 use Rattle.shared.specs.Cid.{cidBytes, longBytes}
 use Rattle.shared.specs.declared.cid.ConnectionId.{ConnectionId}
 use Rattle.shared.proofs.Laws.{length-cid}
-use Rattle.frame.specs.Format.{orNone, orNothing}
+use Rattle.frame.specs.Format.{orNone}
 use Rattle.frame.specs.Table.{flag, table}
-use Rattle.row_out.specs.Writing.{Word, number, raw, nothing, wordNumber, fieldBytes, rowBytes, frameBytes}
+use Rattle.row_out.specs.Writing.{Word, number, raw, wordNumber, fieldBytes, rowBytes, frameBytes}
 use Rattle.row_out.specs.Back.{wordRead, ReadAs}
 use Rattle.row_out.proofs.Laws.{below-at}
 use Rattle.row_out.proofs.ReadBack.{read-as, out-read}
@@ -106,14 +106,6 @@ module _ (p bs q : List ℕ) where
       let ys : List ℕ = 0x1d ∷ code ∷ length d ∷ [] in
       out-read table 0x1d _ _ ys d bs p q (application-vals code d) (close-seen (application code) reason max bs e .frame) refl (omega arith)
       (λ b. (below-at ys 1 b (omega arith), (below-at ys 2 b (omega arith), tt)))
-
-type-zero : wordRead orNone (number 0) ≡ nothing
-unfolding orNothing if_then_else_
-type-zero = refl
-
-type-some : (t : ℕ) → (t ≡ 0 → ⊥) → wordRead orNone (number t) ≡ number t
-unfolding orNothing if_then_else_
-type-some t h = rw (ne-eqb t 0 h)
 
 -- ---- a stream frame's head and so many bytes of data; without a length it is the last of its payload
 

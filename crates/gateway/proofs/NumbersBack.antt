@@ -5,6 +5,7 @@ use native.Mathlib.Omega.{arith}
 use borrow.Author.Tests.{ne-eqb}
 use Rattle.coding.specs.Words.{if_then_else_, Answer, no, ok}
 use Rattle.coding.proofs.Rules.{if-all}
+use Rattle.coding.proofs.Numbers.{Refuses}
 use Rattle.shared.specs.declared.kinds.CutNumber.{CutNumber}
 use Rattle.number.specs.Cutting.{cut, cutTo, cutMade}
 use Rattle.number.specs.Expanding.{expanded}
@@ -27,10 +28,6 @@ pub ends-back : (e : Ends) → endsIn (endsOut e) ≡ e
 ends-back e i = record { next = e .next; acked = so-far-back (e .acked) i; largest = so-far-back (e .largest) i }
 
 -- ---- a refusal's number is not 0
-
-abbrev pub Refuses : {A : Type 0} → Answer A → Type 0
-Refuses (ok a) = Unit
-Refuses (no k) = k ≡ 0 → ⊥
 
 pub fourteen : _≡_ {A = ℕ} 14 0 → ⊥
 fourteen z = omega (arith, z)

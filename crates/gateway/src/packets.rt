@@ -153,7 +153,7 @@ fn src_place(refusal: u8, kind: u8, dst: u8, len: u8) -> Span
 }
 
 // A packet of len bytes at a place of the datagram, or a refusal there.
-fn header_record(start: usize, len: usize, plain: Decoded) -> SplitAnswer
+fn split_record(start: usize, len: usize, plain: Decoded) -> SplitAnswer
     ensures { λ r. ⌜ r ≡ splitRecord start len (outcomeOf plain) ⌝ }
 {
     let header = plain.header;
@@ -203,8 +203,8 @@ pub(crate) fn step_record(at: usize, x: Stepped) -> SplitAnswer
     let plain = x.plain_header;
     match found {
         Found::End => no_packet(0, at),
-        Found::Packet(p) => header_record(p.start, p.len, plain),
-        Found::Refused(start) => header_record(start, 0, plain),
+        Found::Packet(p) => split_record(p.start, p.len, plain),
+        Found::Refused(start) => split_record(start, 0, plain),
     }
 }
 

@@ -13,6 +13,7 @@ use Rattle.coding.specs.Reading.{fixedAt, takeAt}
 use Rattle.coding.specs.Varint.{varAt}
 use Rattle.coding.specs.declared.Place.{Place}
 use Rattle.coding.proofs.Rules.{if-all, then-all}
+use Rattle.coding.proofs.Numbers.{Refuses}
 use Rattle.ack.specs.Scan.{rounds, scanAt}
 use Rattle.frame.specs.Format.{Value, num, place, none, Said, said, Field, var, orNone, atMost, bytes, rest, fixed, num64, cid, ackBlocks, const, absent, lastButOne, inOrder, Read, done, refuse, thenRead, bytesAt, allLeftAt, cidAt, upTo, blocksAt, fieldAt, fieldsAt, bit}
 use Rattle.frame.specs.Table.{Row, look, has, readRow, frameBodyAt, table, FrameOutcome, taken, refused, outcome, frameAt, ackFields}
@@ -25,10 +26,6 @@ use Rattle.gateway_frame.specs.GivesBack.{valueBack, valuesBack, countIn
 abbrev Fine : {A : Type 0} → (A → Type 0) → Read A → Type 0
 Fine P (done a n) = P a
 Fine P (refuse k) = k ≡ 0 → ⊥
-
-abbrev Refuses : Answer ℕ → Type 0
-Refuses (ok n) = Unit
-Refuses (no k) = k ≡ 0 → ⊥
 
 ten : _≡_ {A = ℕ} 10 0 → ⊥
 ten e = omega (arith, e)

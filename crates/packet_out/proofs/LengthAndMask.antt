@@ -163,9 +163,6 @@ two-clear : (n k : ℕ) → n / 2 ^ k % 4 ≡ 0 → bitAnd n (2 ^ (2 + k) - 2 ^ 
 two-clear n k h = and-high n 2 k ∙ rw h (omega arith)
 
 module _ (c : CutNumber) (k : isCut c ≡ true) where
-  low : lengthBits c + 1 ≡ c .0
-  low = omega (arith, cut-short c k)
-
   long-len : (t : PacketType) → tagLength (longFirst (bitsOf t) + lengthBits c) ≡ c .0
   unfolding longFirst
   long-len t = omega (arith, cut-short c k)

@@ -1,32 +1,21 @@
 -- What is read in a part of a list is read there in the whole list.
-use mathlib.Core.Path.{_≡_, refl, sym, ap, _∙_}
+use mathlib.Core.Path.{_≡_, refl, _∙_}
 use mathlib.Core.List.{List, _++_}
 use mathlib.Core.Bool.{Bool, true, false}
-use Prim.Native.Nat.{ℕ, zero, suc, _+_, _-_, _≤_}
-use native.Mathlib.Nat.{add-assoc}
+use Prim.Native.Nat.{ℕ, zero, suc, _+_, _-_}
 use native.Mathlib.Omega.{arith}
-use lib.ListN.{length, take, drop, getD, length-append, length-drop, List·getD-append}
-use lib.Seq.{getD-append-add, drop-append-add, drop-append-le, take-append-le}
+use lib.ListN.{length}
+use lib.Seq.{drop-at}
 use lib.Dec.{ltb}
 use Rattle.coding.specs.Words.{if_then_else_, Got, cut, got, andThen, Answer, no, ok}
-use Rattle.coding.specs.Varint.{varLen, varAt}
-use Rattle.coding.proofs.Laws.{read-var, var-some}
+use Rattle.coding.specs.Varint.{varAt}
+use Rattle.coding.proofs.Shift.{var-behind, var-before}
 use Rattle.ack.specs.Scan.{rounds, scanAt}
 
 module _ (p d q : List ℕ) where
   pub var-local : (at v n : ℕ) → varAt d at ≡ got v n → varAt (p ++ (d ++ q)) (length p + at) ≡ got v (length p + n)
   var-local at v n e =
-      let r = read-var d at v n e in
-      let m : ℕ = varLen (getD d at 0) in
-      let s : List ℕ = p ++ (d ++ q) in
-      let all : length s ≡ length p + (length d + length q) = simp length-append in
-      let first : getD s (length p + at) 0 ≡ getD d at 0 = getD-append-add p (d ++ q) at 0 ∙ List·getD-append d q 0 at (r .begun) in
-      let a : drop (at + 1) (d ++ q) ≡ drop (at + 1) d ++ q = drop-append-le (at + 1) d q (omega arith) in
-      let dr : drop (length p + at + 1) s ≡ drop (at + 1) d ++ q = rw add-assoc (drop-append-add p (d ++ q) (at + 1) ∙ a) in
-      let h : m - 1 ≤ length (drop (at + 1) d) = simp length-drop (omega (arith, r)) in
-      let tk : take (m - 1) (drop (at + 1) d ++ q) ≡ take (m - 1) (drop (at + 1) d) = take-append-le (m - 1) (drop (at + 1) d) q h in
-      let f = var-some s (length p + at) m (omega (arith, r)) (rw first refl) v (omega (arith, r)) (rw (first, dr, tk) (r .value)) in
-      sym f ∙ ap (λ (k : ℕ). got v k) (omega (arith, r))
+      var-behind (p ++ (d ++ q)) (length p) at ∙ rw (drop-at p (d ++ q) (length p) refl, var-before d q at v n e)
 
   -- a field, and a test, and what follows it
   module _ (m : ℕ) where

@@ -1,13 +1,12 @@
 -- What is written of a CID is read back, wherever it stands.
 use mathlib.Core.Path.{_≡_, refl, sym, _∙_}
-use mathlib.Core.List.{List, [], _∷_, _++_, append-assoc}
+use mathlib.Core.List.{List, [], _∷_, _++_}
 use Prim.Native.Nat.{ℕ, _+_, _-_, _%_, _≤_}
 use native.Mathlib.Omega.{arith}
 use lib.ListN.{length, take, drop, replicate, length-append}
-use lib.Seq.{drop-append-add, take-at, length-take-le}
+use lib.Seq.{drop-append-add, take-at}
 use borrow.Author.Tests.{le-leb}
 use Rattle.coding.specs.Words.{if_then_else_, got, andThen, ok}
-use Rattle.coding.specs.Bytes.{splice}
 use Rattle.coding.specs.Places.{partOf}
 use Rattle.coding.specs.Reading.{fixedAt}
 use Rattle.coding.specs.declared.Place.{Place}
@@ -47,14 +46,6 @@ module _ (p q : List ℕ) (c : ConnectionId) (short : c .len ≤ 20) (all : c .l
   pub cid-back : cidLong (p ++ (longBytes c ++ q)) (length p) ≡ (ok (length p + 1 + c .len), cidOf (cidBytes c))
   unfolding cidLong cidOn andThen if_then_else_
   cid-back = rw (long-back, le-leb _ _ short, bytes-back)
-
--- and so after a put at a place of a buffer
-pub cid-spliced : (l : List ℕ) (at : ℕ) (c : ConnectionId) → c .len ≤ 20 → c .len ≤ length (c .bytes) → at ≤ length l
-    → cidLong (splice l at (longBytes c)) at ≡ (ok (at + 1 + c .len), cidOf (cidBytes c))
-unfolding splice
-cid-spliced l at c short all k =
-    let e : length (take at l) ≡ at = length-take-le at l k in
-    rw append-assoc (rw e at (cid-back (take at l) (drop (at + length (longBytes c)) l) c short all))
 
 -- one that has zeros past its length comes back as it was
 pub cid-same : (bs : List ℕ) → cidBytes (cidOf bs) ≡ bs

@@ -1,5 +1,5 @@
 -- `nth_range` meets its contract: a walk of its MIR, by hand. One reader is made by `new` in a local and stepped by `next` in a loop and once more; for each call the local is lent as `&mut`, for a lifetime that is made for the call and that the slice's outlives (`Lent.antt`), and comes back.
---     steps-on    one call of `next`, and what is had after it
+--     steps-on    one call of `next`, and what holds after it
 --     Left, At    the loop's variant and its invariant: the reader, and how many steps are left, after which it says what the answer is to be
 -- All that the proof knows of the two callees is that each meets its contract.
 use mathlib.Core.Path.{_≡_, refl, ap, ap₂, _∙_}

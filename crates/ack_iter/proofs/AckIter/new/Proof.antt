@@ -1,5 +1,5 @@
 -- `AckIter::new` meets its contract: a walk of its MIR, by hand. The reader is made of the number and the slice passed, in the result's local.
--- A `&[u8]` is Copy, so what it owns is had twice: once for data at exit, and once inside the result, beside the facts of largest.
+-- A `&[u8]` is Copy, so what it owns stands there twice: once for data at exit, and once inside the result, beside the facts of largest.
 use mathlib.Core.Path.{refl}
 use Prim.Native.Nat.{ℕ}
 use mathlib.Core.List.{List, [], _∷_}

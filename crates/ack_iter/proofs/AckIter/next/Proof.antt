@@ -1,5 +1,5 @@
 -- `AckIter::next` meets its contract: a walk of its MIR, by hand. The borrow of the reader is opened, its number and its slice are copied out and passed to `step`; the number that it returns is stored; the slice is passed to `rest_of`, and the part that it returns is stored; the borrow is closed at the reader of the two.
--- A `&[u8]` is Copy, so what the slice owns is had twice, once for each call; what the part owns takes its place in the reader. All that the proof knows of the two callees is that each meets its contract.
+-- A `&[u8]` is Copy, so what the slice owns stands there twice, once for each call; what the part owns takes its place in the reader. All that the proof knows of the two callees is that each meets its contract.
 use mathlib.Core.Path.{_≡_, refl, ap, subst}
 use Prim.Native.Nat.{ℕ, _<_, _^_}
 use mathlib.Core.List.{[], _∷_, List}
@@ -187,7 +187,7 @@ module _ {M : Type 1} (𝓤 : URA M) (H : Heap 𝓤) (A : Atoms 𝓤) (W : Given
         -- [the reader's cell; what it owns; the open borrow; obs; auth; 'a's token; true; _5; …; _4; …; _3; …; _2; …; _1; …; room for _0; …]
         assigns ! (of-opd ! (load ! (from ! (hop ! (look ! 15 refl) (fld ! refl (stop !)))) (look-in ! 0 (sub ! 0 refl (whole !))))) (from ! (stop !)) (init ! 13 refl (LL.lawful F.the-type F′.the-laws 𝓤 H A W .typed (h .largest) _ (largest-is was) .0)) $
         assigns ! (of-opd ! (load ! (from ! (hop ! (look ! 15 refl) (fld ! refl (stop !)))) (look-in ! 0 (sub ! 1 refl (whole !))))) (from ! (stop !)) (init ! 11 refl (tt, (tt, (record { fits = room was .0 }, tt)))) $
-        -- what the reader owns is taken apart, and what the slice owns is had twice
+        -- what the reader owns is taken apart, and what the slice owns stands there twice
         move ! (1 ∷ []) $ use1 W (given (T′.lowered h ∷ [] ≡ T′.lowered h ∷ []) (‵ (all-own (D .parts) L (h .largest, (d, tt))))) (own-open 𝓤 H A W D L (h .largest, (d, tt)) (T′.lowered h)) $ learn ! (λ _. fsplit ! $ drop ! $ fsplit ! $
         use1 W (‵ (Own d) ⊛ ‵ (Own d)) (shr-slice-copy 𝓤 H A W (named 0) κ′ u8 .twice d (v d ∷ [])) $ split ! $
         nothing ! $ move ! (1 ∷ 0 ∷ []) $ fjoin ! $ owned ! F.the-row (Is F.the-row) (LL.makes F.the-type F′.the-plain 𝓤 H A) (h .largest) _ (largest-is was) $ fjoin ! $

@@ -1,7 +1,7 @@
 use Rattle.packet.specs.Said.{outcomeOf}
 use borrow.Author.Needs.{needs}
-use Rattle.gateway.proofs.packets.header_record.Statement.{statement}
-use Rattle.gateway.proofs.packets.header_record.Tie as tie
+use Rattle.gateway.proofs.packets.split_record.Statement.{statement}
+use Rattle.gateway.proofs.packets.split_record.Tie as tie
 
 numbers-of-requires : tie.Need-numbers-of-requires
 numbers-of-requires c κs = search needs
