@@ -84,7 +84,8 @@ field-back rest w p q seen k h = rw (h, rest-back p (wordBytes w))
 field-back (fixed m) w p q seen k h = rw (← h, take-back p (wordBytes w) q)
 field-back num64 w p q seen k h =
     let e : wordNumber w % 256 ^ 8 ≡ wordNumber w = omega arith in
-    rw (fixed-back p q 8 (wordNumber w), e, length-bytesBE)
+    let l : length (fieldBytes num64 w) ≡ 8 = length-bytesBE 8 (wordNumber w) in
+    rw (fixed-back p q 8 (wordNumber w), e, l)
 field-back cid w p q seen k h =
     let e : length p + suc (length (wordBytes w)) ≡ length p + 1 + length (wordBytes w) = omega arith in
     rw (cid-back p (wordBytes w) q (h .0) (h .1), e)

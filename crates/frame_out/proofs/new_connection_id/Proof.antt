@@ -15,7 +15,9 @@ use Rattle.frame_out.proofs.new_connection_id.Tie as tie
 
 returns : tie.Need-returns
 unfolding wroteOf newCidOut if_then_else_
-returns c = written-no _ (rw (lt-ltb _ _ (c .if1 .taken)))
+returns c =
+    let a = c .before .before .args in
+    written-no _ (rw (lt-ltb (a .sequence) (a .retire-prior-to) (omega arith)))
 
 returns-2 : tie.Need-returns-2
 unfolding wroteOf newCidOut if_then_else_

@@ -23,7 +23,7 @@ loop-less : tie.Need-loop-less Inv-loop μ-loop
 loop-less c = omega arith
 
 loop-again : tie.Need-loop-again Inv-loop μ-loop
-loop-again c = omega (arith, length-more (c .before .loop .v) (c .loop-test .taken))
+loop-again c = omega (arith, length-more (c .before .loop .v) (omega arith))
 
 returns : tie.Need-returns Inv-loop μ-loop
 returns c = omega (arith, length-one (c .before .loop .v) (omega arith))
