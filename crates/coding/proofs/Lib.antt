@@ -1,5 +1,5 @@
 -- For the crates above: `Rules` has the lists of lemmas for a `search` at a return, `Writes` what a run of puts keeps,
--- `Laws` the laws of the definitions, `Shift` that an integer is read in a part as in the whole, `Back` that what is written is read back, `Numbers` that a number tells a refusal apart,
+-- `Laws` the laws of the definitions, `Shift` that an integer is read in a part as in the whole, `Back` that what is written is read back, `Numbers` that a number tells a refusal apart and is not 0,
 -- `Inverse` that what an answer says settles it, `Onces` that each public function has only one answer. `Steps` is for this crate's own loops.
 pub mod Rules
 pub mod Laws

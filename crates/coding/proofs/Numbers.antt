@@ -1,6 +1,7 @@
 -- A refusal's number tells it apart from all others, and from 0, which is none.
 use mathlib.Core.Path.{_≡_, refl, sym, ap, _∙_}
 use Prim.Native.Nat.{ℕ}
+use native.Mathlib.Omega.{arith}
 use mathlib.Core.Bool.{cond}
 use lib.Dec.{eqb}
 use Rattle.coding.specs.Words.{Answer, no, ok}
@@ -52,3 +53,6 @@ one-refusal r s e = sym (refusal-back r) ∙ ap refusalOf e ∙ refusal-back s
 abbrev pub Refuses : {A : Type 0} → Answer A → Type 0
 Refuses (ok a) = Unit
 Refuses (no k) = k ≡ 0 → ⊥
+
+pub fourteen : _≡_ {A = ℕ} 14 0 → ⊥
+fourteen z = omega (arith, z)

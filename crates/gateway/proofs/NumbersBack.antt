@@ -1,15 +1,13 @@
 -- A step of the number ends over the surface is the call on the ends themselves: what it says and what it leaves are given back.
 use Prim.Native.Nat.{ℕ}
 use mathlib.Core.Path.{_≡_, refl, sym}
-use native.Mathlib.Omega.{arith}
 use borrow.Author.Tests.{ne-eqb}
 use Rattle.coding.specs.Words.{if_then_else_, Answer, no, ok}
 use Rattle.coding.proofs.Rules.{if-all}
 use Rattle.coding.proofs.Numbers.{Refuses}
-use Rattle.shared.specs.declared.kinds.CutNumber.{CutNumber}
-use Rattle.number.specs.Cutting.{cut, cutTo, cutMade}
-use Rattle.number.specs.Expanding.{expanded}
-use Rattle.number.specs.Ends.{SoFar, none, at, baseOf, Ends, Call, Packet, sendWith, sendBy, acknowledgeBy, readBy, acceptBy}
+use Rattle.number.proofs.Refusing.{send-refuses, acknowledge-refuses, accept-refuses, read-refuses}
+use Rattle.number.specs.Cutting.{cut}
+use Rattle.number.specs.Ends.{SoFar, none, at, baseOf, Ends, Packet, sendBy, acknowledgeBy, readBy, acceptBy}
 use Rattle.number.proofs.Calls.{send-refused, acknowledge-refused, accept-refused}
 use Rattle.gateway.specs.Numbers.{soFar, hasOf, endsIn, endsOut, sentRecord, keptRecord, readRecord}
 use Rattle.gateway.specs.GivesBack.{answerBack, callBack, packetBack, StepIsCall, RefusedIsSame}
@@ -26,42 +24,6 @@ so-far-back (at n) = refl
 -- a record that was handed back is the ends that the step left
 pub ends-back : (e : Ends) → endsIn (endsOut e) ≡ e
 ends-back e i = record { next = e .next; acked = so-far-back (e .acked) i; largest = so-far-back (e .largest) i }
-
--- ---- a refusal's number is not 0
-
-pub fourteen : _≡_ {A = ℕ} 14 0 → ⊥
-fourteen z = omega (arith, z)
-
-cut-refuses : (n acked : ℕ) → Refuses (cutMade n acked)
-unfolding cutMade cutTo
-cut-refuses n acked =
-    if-all Refuses _ _ _ (λ _. fourteen) (λ _.
-    if-all Refuses _ _ _ (λ _. fourteen) (λ _.
-    if-all Refuses _ _ _ (λ _ z. omega (arith, z)) (λ _. tt)))
-
-module _ (e : Ends) where
-  with-refuses : (r : Answer CutNumber) → Refuses r → Refuses (sendWith e r .says)
-  unfolding sendWith
-  with-refuses (ok c) h = tt
-  with-refuses (no k) h = h
-
-  send-refuses : Refuses (sendBy e .says)
-  unfolding sendBy
-  send-refuses = if-all (λ (c : Call Packet). Refuses (c .says)) _ _ _ (λ _. with-refuses _ (cut-refuses _ _)) (λ _. fourteen)
-
-  acknowledge-refuses : (n : ℕ) → Refuses (acknowledgeBy e n .says)
-  unfolding acknowledgeBy
-  acknowledge-refuses n =
-      if-all (λ (c : Call Unit). Refuses (c .says)) _ _ _ (λ _. if-all (λ (c : Call Unit). Refuses (c .says)) _ _ _ (λ _. fourteen) (λ _. tt)) (λ _. fourteen)
-
-  accept-refuses : (n : ℕ) → Refuses (acceptBy e n .says)
-  unfolding acceptBy
-  accept-refuses n =
-      if-all (λ (c : Call Unit). Refuses (c .says)) _ _ _ (λ _. if-all (λ (c : Call Unit). Refuses (c .says)) _ _ _ (λ _. fourteen) (λ _. tt)) (λ _. fourteen)
-
-  read-refuses : (c : CutNumber) → Refuses (readBy e c)
-  unfolding readBy expanded
-  read-refuses c = if-all Refuses _ _ _ (λ _. if-all Refuses _ _ _ (λ _. fourteen) (λ _. tt)) (λ _. fourteen)
 
 -- ---- the records
 

@@ -13,7 +13,7 @@ use Rattle.coding.specs.Bytes.{byteAt}
 use Rattle.coding.specs.Reading.{fixedAt}
 use Rattle.coding.specs.declared.Place.{Place}
 use Rattle.coding.proofs.Rules.{if-all, then-all}
-use Rattle.coding.proofs.Numbers.{Refuses}
+use Rattle.coding.proofs.Numbers.{Refuses, fourteen}
 use Rattle.packet.specs.Header.{initial, zeroRtt, handshake, retry, short, negotiate, kindOf, isLong, spaceIn}
 use Rattle.number.specs.Cutting.{tagLength}
 use Rattle.protect.specs.Tests.{inSize}
@@ -26,7 +26,6 @@ use Rattle.gateway.specs.GivesBack.{sampleBack, SampleGivesBack, openedB
 use Rattle.gateway.specs.declared.records.UnmaskAnswer.{UnmaskAnswer}
 use Rattle.gateway.proofs.MaskCases.{unmask-ok}
 use Rattle.gateway.proofs.SplitBack.{flag-back}
-use Rattle.gateway.proofs.NumbersBack.{fourteen}
 
 -- ---- the kinds
 

@@ -4,6 +4,7 @@ pub mod Firsts
 pub mod Cuts
 pub mod Readings
 pub mod Calls
+pub mod Refusing
 pub mod Delivery
 pub mod BothWays
 pub mod Inverse

@@ -13,12 +13,13 @@ use Rattle.coding.specs.Words as found
 use Rattle.coding.specs.Varint.{varAt}
 use Rattle.coding.specs.Refusals.{numberOf}
 use Rattle.coding.specs.declared.refusal.Refusal.the-variants as ref
-use Rattle.coding.proofs.Rules.{if-all}
+use Rattle.coding.proofs.Numbers.{Refuses}
 use Rattle.shared.specs.declared.kinds.CutNumber.{CutNumber}
-use Rattle.number.specs.Cutting.{cut, cutTo, cutMade}
+use Rattle.number.specs.Cutting.{cut, cutMade}
 use Rattle.number.specs.Expanding.{expanded}
 use Rattle.number.proofs.Windows.{cut-rule}
 use Rattle.number.proofs.Cuts.{cut-is, cut-kept}
+use Rattle.number.proofs.Refusing.{cut-refuses, expanded-refuses}
 use Rattle.frame.specs.Format.{num, said, Said, Read, done, refuse, fieldAt, fieldsAt}
 use Rattle.frame.specs.Table.{flag, table, frameBodyAt}
 use Rattle.timed.specs.Timed.{gatheredFrom, gathered, varsOf, cutSaid, cutsOf, fullsOf, writeRecord, flagged}
@@ -27,24 +28,9 @@ use Rattle.timed.proofs.Laws.{start, vars-end, vars-cut, vars-on, flag-
 
 -- ---- answers one after the other
 
--- a refusal's number is not 0
-abbrev Refuses : {A : Type 0} → Answer A → Type 0
-Refuses (ok a) = Unit
-Refuses (no k) = k ≡ 0 → ⊥
-
 -- the answer to one: what f makes of the number, or the refusal
 abbrev oneBack : {A : Type 0} → (ℕ → A) → GatheredAnswer → Answer A
 oneBack f r = if eqb (r .refusal) 0 then ok (f (r .mixed)) else no (r .refusal)
-
-fourteen : _≡_ {A = ℕ} 14 0 → ⊥
-fourteen z = omega (arith, z)
-
-cut-refuses : (n acked : ℕ) → Refuses (cutMade n acked)
-unfolding cutMade cutTo
-cut-refuses n acked =
-    if-all Refuses _ _ _ (λ _. fourteen) (λ _.
-    if-all Refuses _ _ _ (λ _. fourteen) (λ _.
-    if-all Refuses _ _ _ (λ _ z. omega (arith, z)) (λ _. tt)))
 
 -- one packet number is cut as `number` says: the length stands above the value's four bytes
 pub cut-back : (n acked : ℕ) → oneBack (λ x. cut (x / 2 ^ 32) (x % 2 ^ 32)) (gathered (cutsOf acked (n ∷ []))) ≡ cutMade n acked
@@ -59,10 +45,6 @@ cut-back n acked = go (cutMade n acked) refl (cut-refuses n acked)
         let x : (c .1 + c .0 * 2 ^ 32) / 2 ^ 32 ≡ c .0 = omega arith in
         let y : (c .1 + c .0 * 2 ^ 32) % 2 ^ 32 ≡ c .1 = omega arith in
         λ i. ok (cut (x i) (y i))
-
-expanded-refuses : (c : CutNumber) (e : ℕ) → Refuses (expanded c e)
-unfolding expanded
-expanded-refuses c e = if-all Refuses _ _ _ (λ _. if-all Refuses _ _ _ (λ _. fourteen) (λ _. tt)) (λ _. fourteen)
 
 -- and one cut number is read back as `number` says
 pub full-back : (k expected v : ℕ) → oneBack (λ x. x) (gathered (fullsOf k expected (v ∷ []))) ≡ expanded (cut k v) expected
