@@ -49,7 +49,7 @@ unfolding setOf lengthField
 returns-2 c =
     let b = c .before .before .before .before in
     let s = put-so _ _ _ (simp length-bytesBE (omega arith)) (c .before .before .put-u16 .ensures) in
-    changed-ok _ _ (into-ok _ _ _ _ refl (b .if1 .left) ∙ ap ok (sym (s .bytes))) refl
+    changed-ok _ _ (into-ok _ (b .before .before .args .k) _ _ refl (b .if1 .left) ∙ ap ok (sym (s .bytes))) refl
 
 pub length-into-spec : {M : Type 1} → statement M
 length-into-spec =
