@@ -3,6 +3,10 @@
 `file: PATH` holds for the pairs of lines `old: TEXT` and `new: TEXT` after it; `# ..` says what the edit shows. TEXT is one line, and
 `old` stands in its file exactly once. After `all: FOLDER` (twins alone) `old` is changed wherever it stands in code, definitions and
 proofs below that folder, once at least. All pairs are made at once, of the text as it was.
+
+The words of an error tell only what kind it is. `search` finds no proof of a goal that is false, and none of a true one where it does not
+read a test; a fact that is stronger than the one that is asked for (11 ≤ v for 10 ≤ v) differs from it too, and nothing is lost. So the
+error is printed, and a person judges whether what is to be proved there is false.
 """
 import collections
 import os
@@ -73,13 +77,14 @@ ERRORS = [
     (r'has no `Need-|has no field|missing field|expected type `tie\.|field\(s\)', 'the proof does not fit the code', False),
     (r'not in scope|no such name|no definition|is not a definition|does not exist', 'a name is not known', False),
     (r'was not admitted|unsolved|Parse|expected a function|ResourceLimit|step limit', 'the proof is not read', False),
-    (r'`omega`: the goal does not follow', 'the numbers do not add up', True),
-    (r'`omega`', '`omega` finds no proof', True),
-    (r'no proof was found|`search`', '`search` finds no proof', True),
+    (r'no occurrence of', 'what is rewritten is not there', False),
+    (r'^`omega`: .*does not follow from what it read', 'the numbers do not add up', True),
+    (r'^`omega`', '`omega` does not tell', False),
+    (r'^`search`: no proof of .*Every way was tried', '`search` finds no proof', True),
+    (r'^`search`', '`search` gave up', False),
     (r'differ only where one has (`[^`]*`)[^`]*and the other has (`[^`]*`)', r'expected \1, found \2', True),
     (r'differ only where one has', 'the two sides are not equal', True),
     (r'two types are (`[^`]*`) \(expected\) and (`[^`]*`) \(found\)', r'expected \1, found \2', True),
-    (r'no occurrence of', 'what is rewritten is not there', True),
     (r'asks for a part', 'it is not proved without a file any more', True),
     (r'two ends are equal|the two types|but this has type|BoundaryMismatch', 'the two sides are not equal', True),
 ]
@@ -96,6 +101,7 @@ def first_error(log):
 
 def kind_of(message):
     """(in words, whether a fact is lost)"""
+    message = ' '.join(message.split())
     for pattern, words, lost in ERRORS:
         m = re.search(pattern, message)
         if m:

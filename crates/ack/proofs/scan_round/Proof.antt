@@ -1,3 +1,4 @@
+use Prim.Native.Nat.{_+_, _-_, _<_}
 use native.Mathlib.Omega.{arith}
 use borrow.Author.Needs.{needs}
 use denote.Ref.{now}
@@ -14,6 +15,14 @@ add-if1 c =
     let t = c .before .before .before .before in
     let a = t .before in
     omega (arith, var-small (now (a .before .args .s)) _ _ _ _ (λ i. omega (arith, a .shared-slice-known .given i)) (t .get-var .ensures) (c .before .before .gap .given .1))
+
+-- the next largest number, as the definition has it, is below the block
+returns-4 : tie.Need-returns-4
+unfolding roundThen rounds
+returns-4 c n =
+    let t = c .before .before .before .before .before .before .before .before .before .before in
+    let low : t .before .before .before .before .args .smallest - (t .gap .given .0 .0 .0 + 2) < c .before .before .before .block .given .0 .0 .0 = omega arith in
+    search steps depth 40 fits 4000
 
 pub scan-round-spec : {M : Type 1} → statement M
 unfolding roundThen rounds
@@ -32,5 +41,5 @@ scan-round-spec =
     (λ c. search needs)
     (λ c. search needs)
     (λ c n. search steps depth 40 fits 4000)
-    (λ c n. search steps depth 40 fits 4000)
+    returns-4
     (λ c n. search steps depth 40 fits 4000))

@@ -39,7 +39,7 @@ shared-slice-read-if1-2 c = omega arith
 returns : tie.Need-returns Inv-loop μ-loop
 returns c =
     let l = c .before .before .before .before .loop in
-    sym (ascends-not (now (c .before .before .before .before .before .args .list)) (l .i) (omega arith) (c .if1 .taken)) ∙ l .inv .1
+    sym (ascends-not (now (c .before .before .before .before .before .args .list)) (l .i) (omega arith) (omega arith)) ∙ l .inv .1
 
 add-i : tie.Need-add-i Inv-loop μ-loop
 add-i c = omega arith
@@ -50,7 +50,7 @@ loop-less c = omega arith
 loop-again : tie.Need-loop-again Inv-loop μ-loop
 loop-again c =
     let l = c .before .before .before .before .loop in
-    (omega arith, sym (ascends-on (now (c .before .before .before .before .before .args .list)) (l .i) (omega arith) (c .if1 .left)) ∙ l .inv .1)
+    (omega arith, sym (ascends-on (now (c .before .before .before .before .before .args .list)) (l .i) (omega arith) (omega arith)) ∙ l .inv .1)
 
 returns-2 : tie.Need-returns-2 Inv-loop μ-loop
 returns-2 c =

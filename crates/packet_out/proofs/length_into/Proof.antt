@@ -22,7 +22,9 @@ add-len c = search needs
 
 returns : tie.Need-returns
 unfolding setOf
-returns c = changed-no _ _ (into-long _ _ _ _ refl (c .if1 .taken))
+returns c =
+    let a = c .before .before .args in
+    changed-no _ _ (into-long _ _ _ (length (now (a .packet)) - a .header-len + a .k) refl (omega arith))
 
 sub-put-u16 : tie.Need-sub-put-u16
 sub-put-u16 c = search needs
@@ -46,9 +48,8 @@ returns-2 : tie.Need-returns-2
 unfolding setOf lengthField
 returns-2 c =
     let b = c .before .before .before .before in
-    let a = b .before .before .args in
-    let s = put-so _ _ _ (omega (arith, length-bytesBE 2 (0x4000 + (length (now (a .packet)) - a .header-len + a .k)))) (c .before .before .put-u16 .ensures) in
-    changed-ok _ _ (into-ok _ _ _ _ refl (b .if1 .left) ∙ ap ok (sym (s .bytes))) refl
+    let s = put-so _ _ _ (simp length-bytesBE (omega arith)) (c .before .before .put-u16 .ensures) in
+    changed-ok _ _ (into-ok _ (b .before .before .args .k) _ _ refl (b .if1 .left) ∙ ap ok (sym (s .bytes))) refl
 
 pub length-into-spec : {M : Type 1} → statement M
 length-into-spec =
