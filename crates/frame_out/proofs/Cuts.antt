@@ -1,4 +1,4 @@
--- The cases of a close: what max leaves of the reason, and which arguments are refused.
+-- The cases of a close: what max leaves of the reason, which arguments are refused, and its type.
 use mathlib.Core.Path.{_≡_, refl, ap, _∙_}
 use mathlib.Core.List.{List, [], _∷_}
 use mathlib.Core.Bool.{Bool, true, false}
@@ -14,10 +14,11 @@ use Rattle.coding.specs.Writing.{lengthOf}
 use Rattle.coding.specs.declared.refusal.Refusal.{Refusal}
 use Rattle.coding.specs.declared.varint.Sized.{Sized}
 use Rattle.coding.specs.declared.varint.Sized.the-variants as sized
-use Rattle.row_out.specs.Writing.{Word, wordNumber}
-use Rattle.row_out.specs.Limits.{varsOut}
+use Rattle.frame.specs.Table.{table}
+use Rattle.row_out.specs.Writing.{Word, number, raw, wordNumber}
+use Rattle.row_out.specs.Limits.{frameOut, varsOut}
 use Rattle.row_out.proofs.Laws.{below-not, out-past}
-use Rattle.frame_out.specs.Closes.{Closing, connection, application, fixedFields, reasonCut, closeWith, closeOut}
+use Rattle.frame_out.specs.Closes.{Closing, connection, application, isConnection, fixedFields, reasonCut, closeWith, closeOut}
 use Rattle.frame_out.proofs.Vals.{connection-vals, application-vals}
 
 -- ---- what is left of the reason
@@ -135,3 +136,13 @@ close-seen c reason max bs = go (reasonCut (fixedFields c (length reason)) max r
     go (ok d) e h =
         let s = cut-seen (fixedFields c (length reason)) max reason d e in
         record { small = s .0 .0; fits = s .0 .1; frame = rw (← s .1) h }
+
+-- whether it is the transport's tells the type that is written
+abbrev closeWords : Closing → List ℕ → List Word
+closeWords (connection code ty) d = number code ∷ ty ∷ raw d ∷ []
+closeWords (application code) d = number code ∷ raw d ∷ []
+
+pub layer-type : (c : Closing) (d : List ℕ) → closeWith c (ok d) ≡ frameOut table (if isConnection c then 0x1c else 0x1d) (closeWords c d)
+unfolding closeWith if_then_else_
+layer-type (connection code ty) d = refl
+layer-type (application code) d = refl
