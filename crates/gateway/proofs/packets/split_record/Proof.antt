@@ -16,6 +16,6 @@ returns : tie.Need-returns
 unfolding outcomeOf
 returns c = rw (c .src-place .ensures, c .before .dst-place .ensures, c .before .before .before .before .before .numbers-of .ensures)
 
-pub header-record-spec : {M : Type 1} → statement M
-header-record-spec =
+pub split-record-spec : {M : Type 1} → statement M
+split-record-spec =
     tie.close (tie.spec numbers-of-requires dst-place-requires src-place-requires returns)

@@ -12,14 +12,14 @@ no-packet-requires c κs = search needs
 enum-known-found : tie.Need-enum-known-found
 enum-known-found c = search needs
 
-header-record-requires : tie.Need-header-record-requires
-header-record-requires c κs = search needs
+split-record-requires : tie.Need-split-record-requires
+split-record-requires c κs = search needs
 
 enum-known-found-2 : tie.Need-enum-known-found-2
 enum-known-found-2 c = search needs
 
-header-record-requires-2 : tie.Need-header-record-requires-2
-header-record-requires-2 c κs = search needs
+split-record-requires-2 : tie.Need-split-record-requires-2
+split-record-requires-2 c κs = search needs
 
 returns : tie.Need-returns
 unfolding packetStepOf metOf
@@ -27,11 +27,11 @@ returns c = rw (c .before .enum-told .given .1, c .no-packet .ensures)
 
 returns-2 : tie.Need-returns-2
 unfolding packetStepOf metOf
-returns-2 c = rw (c .before .before .found .given .1, c .header-record .ensures)
+returns-2 c = rw (c .before .before .found .given .1, c .split-record .ensures)
 
 returns-3 : tie.Need-returns-3
 unfolding packetStepOf metOf
-returns-3 c = rw (c .before .before .found2 .given .1, c .header-record2 .ensures)
+returns-3 c = rw (c .before .before .found2 .given .1, c .split-record2 .ensures)
 
 pub step-record-spec : {M : Type 1} → statement M
 step-record-spec =
@@ -40,9 +40,9 @@ step-record-spec =
     enum-told
     no-packet-requires
     enum-known-found
-    header-record-requires
+    split-record-requires
     enum-known-found-2
-    header-record-requires-2
+    split-record-requires-2
     returns
     returns-2
     returns-3)
