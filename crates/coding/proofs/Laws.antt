@@ -3,11 +3,12 @@ use mathlib.Core.Path.{_≡_, refl, sym, ap}
 use mathlib.Core.List.{List, [], _∷_, _++_, append-assoc}
 use mathlib.Core.Bool.{Bool, true, false}
 use Prim.Native.Nat.{ℕ, zero, suc, _+_, _-_, _*_, _/_, _%_, _^_, _≤_, _<_}
-use native.Mathlib.Nat.{add-assoc, pow-succ', mul-assoc, pow-le-pow-right, one-le-pow, lt-of-lt-of-le, mul-le-mul-left}
+use native.Mathlib.Nat.{add-assoc, pow-succ', two-pow-succ, mul-assoc, pow-le-pow-right, one-le-pow, lt-of-lt-of-le, mul-le-mul-left}
 use native.Mathlib.Omega.{arith}
 use lib.ListN.{length, take, drop, getD, length-append, length-take, length-drop}
 use lib.Seq.{drop-drop, drop-append-add, take-at, getD-drop}
 use lib.Dec.{ltb, leb}
+use lib.Pow.{pow-pos}
 use borrow.Author.Tests.{ltb-true, ltb-false, leb-true, le-leb, lt-leb, lt-ltb, le-ltb}
 use Rattle.coding.specs.Words.{if_then_else_, Got, cut, got, Answer, no, ok}
 use Rattle.coding.specs.Bytes.{byteAt, be, bytesBE, splice}
@@ -91,6 +92,29 @@ fits-tag x h = go (ltb x (2 ^ 6)) (ltb x (2 ^ 14)) (ltb x (2 ^ 30)) refl refl re
     go false true c p q r = (omega arith, ltb-true _ _ q)
     go false false true p q r = (omega arith, ltb-true _ _ r)
     go false false false p q r = (omega arith, h)
+
+-- a size tells its tag
+pub size-tag : (x k : ℕ) → varSize x ≡ 2 ^ k → varTag x ≡ k
+unfolding varSize
+size-tag x k e = go (varTag x) k e
+  where
+    go : (i j : ℕ) → 2 ^ i ≡ 2 ^ j → i ≡ j
+    go zero zero h = refl
+    go zero (suc j) h = absurd (omega (arith, two-pow-succ j, pow-pos j))
+    go (suc i) zero h = absurd (omega (arith, two-pow-succ i, pow-pos i))
+    go (suc i) (suc j) h = ap suc (go i j (omega (arith, two-pow-succ i, two-pow-succ j)))
+
+-- and a size that is not 1, 2 or 4 is 8
+pub size-last : (x n : ℕ) → x < 2 ^ 62 → varSize x ≡ n → (n ≡ 1 → ⊥) → (n ≡ 2 → ⊥) → (n ≡ 4 → ⊥) → varSize x ≡ 8
+unfolding varSize
+size-last x n h = go (varTag x) (fits-tag x h .0)
+  where
+    go : (k : ℕ) → k < 4 → 2 ^ k ≡ n → (n ≡ 1 → ⊥) → (n ≡ 2 → ⊥) → (n ≡ 4 → ⊥) → 2 ^ k ≡ 8
+    go zero l e a b c = absurd (a (sym e))
+    go (suc zero) l e a b c = absurd (b (sym e))
+    go (suc (suc zero)) l e a b c = absurd (c (sym e))
+    go (suc (suc (suc zero))) l e a b c = refl
+    go (suc (suc (suc (suc k)))) l e a b c = absurd (omega arith)
 
 pub length-var : (x : ℕ) → length (varBytes x) ≡ varSize x
 unfolding varBytes

@@ -8,9 +8,9 @@ use native.Mathlib.Omega.{arith}
 use lib.ListN.{length, take, drop, getD, set, length-drop}
 use lib.Seq.{take-suc, getD-drop, set-comm, sets, sets-eq}
 use Rattle.coding.specs.Bytes.{be, bytesBE, splice}
-use Rattle.coding.specs.Varint.{varTag, varSize, varBytes, varPut}
+use Rattle.coding.specs.Varint.{varSize, varBytes, varPut}
 use Rattle.coding.specs.Writing.{Put}
-use Rattle.coding.proofs.Laws.{put-some}
+use Rattle.coding.proofs.Laws.{size-tag, put-some}
 
 -- ---- reading a number: one byte more
 
@@ -71,9 +71,9 @@ pub sets-splice : (l bs : List ℕ) (at : ℕ) → at + length bs ≤ length l �
 unfolding splice
 sets-splice l bs at h = sets-eq bs l at h
 
--- ---- an integer that is put, by its tag
+-- ---- an integer that is put, by its size
 
-pub put-tag : (x k : ℕ) (old : List ℕ) (at r : ℕ) (new : List ℕ)
-    → x < 2 ^ 62 → k ≡ varTag x → Put (bytesBE (2 ^ k) (k * 2 ^ (8 * 2 ^ k - 2) + x)) old at r new → Put (varPut x) old at r new
+pub put-sized : (x k : ℕ) (old : List ℕ) (at r : ℕ) (new : List ℕ)
+    → x < 2 ^ 62 → varSize x ≡ 2 ^ k → Put (bytesBE (2 ^ k) (k * 2 ^ (8 * 2 ^ k - 2) + x)) old at r new → Put (varPut x) old at r new
 unfolding varBytes varSize
-put-tag x k old at r new h e p = rw (put-some x h, ← e) p
+put-sized x k old at r new h e p = rw (put-some x h, size-tag x k e) p

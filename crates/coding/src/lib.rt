@@ -273,17 +273,14 @@ pub fn put_slice(buf: &mut [u8], at: usize, bytes: &[u8]) -> usize
 pub fn write_var(buf: &mut [u8], at: usize, x: u64) -> usize
     ensures { λ r. ⌜ Put (varPut x) (now (buf .entry)) at r (now (buf .exit)) ⌝ }
 {
-    if x < 0x40 {
-        return put_num(buf, at, 1, x);
+    let Sized::Bytes(n) = VarInt(x).size() else {
+        return at;
+    };
+    // the tag, 00, 01, 10 or 11, stands in the two top bits
+    match n {
+        1 => put_num(buf, at, 1, x),
+        2 => put_num(buf, at, 2, 0x4000 + x),
+        4 => put_num(buf, at, 4, 0x8000_0000 + x),
+        _ => put_num(buf, at, 8, 0xc000_0000_0000_0000 + x),
     }
-    if x < 0x4000 {
-        return put_num(buf, at, 2, 0x4000 + x);
-    }
-    if x < 0x4000_0000 {
-        return put_num(buf, at, 4, 0x8000_0000 + x);
-    }
-    if x < NUMBER_END {
-        return put_num(buf, at, 8, 0xc000_0000_0000_0000 + x);
-    }
-    at
 }

@@ -53,21 +53,21 @@ impl VarInt {
         self.0
     }
 
-    // The number of bytes needed to encode this value.
+    // The number of bytes needed to encode this value: 1, 2, 4 and 8 bytes hold up to 6, 14, 30 and 62 bits in use.
     pub fn size(self) -> Sized
         ensures { λ r. ⌜ sizedOf r ≡ varSized (self .0) ⌝ }
     {
-        let x = self.0;
-        if x < 0x40 {
+        let used = 64 - u64::leading_zeros(self.0);
+        if used <= 6 {
             return Sized::Bytes(1);
         }
-        if x < 0x4000 {
+        if used <= 14 {
             return Sized::Bytes(2);
         }
-        if x < 0x4000_0000 {
+        if used <= 30 {
             return Sized::Bytes(4);
         }
-        if x < NUMBER_END {
+        if used <= 62 {
             return Sized::Bytes(8);
         }
         Sized::Refused(Refusal::Argument)
