@@ -26,7 +26,7 @@
 extern "C" {
 #endif
 
-/* The numbers of the refusals. */
+/* The numbers of the refusals. There is no 9: GUOBBAREL_NO_NUMBER, which no call answered, is gone. */
 enum guobbarel_refusal {
     GUOBBAREL_OK = 0,
     GUOBBAREL_NO_PACKET_END = 1,       /* a first byte, version, token length or Length is cut */
@@ -37,7 +37,6 @@ enum guobbarel_refusal {
     GUOBBAREL_NO_SHORT_CID = 6,        /* fewer bytes follow a short header's first byte than the local CID has */
     GUOBBAREL_NO_LENGTH = 7,           /* the Length exceeds what remains */
     GUOBBAREL_NO_SAMPLE = 8,           /* the packet is shorter than its number offset + 4 + 16 */
-    GUOBBAREL_NO_NUMBER = 9,           /* the packet number is cut; 8 is tested before it, so that no call answers it today */
     GUOBBAREL_NO_UNEXPECTED_END = 10,  /* a frame's field is cut */
     GUOBBAREL_NO_INVALID_FRAME_ID = 11, /* no frame has this type */
     GUOBBAREL_NO_MALFORMED = 12,       /* a frame's fields do not go together */

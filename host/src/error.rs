@@ -21,8 +21,6 @@ pub enum Error {
     Length = 7,
     /// The packet is shorter than its number offset + 4 + 16.
     Sample = 8,
-    /// The packet number is cut.
-    Number = 9,
     /// A frame's field is cut.
     UnexpectedEnd = 10,
     /// No frame has this type.
@@ -41,7 +39,7 @@ pub enum Error {
 
 impl Error {
     /// Every error, in the order of their numbers.
-    pub const ALL: [Error; 16] = [
+    pub const ALL: [Error; 15] = [
         Error::PacketEnd,
         Error::FixedBit,
         Error::Cid,
@@ -50,7 +48,6 @@ impl Error {
         Error::ShortCid,
         Error::Length,
         Error::Sample,
-        Error::Number,
         Error::UnexpectedEnd,
         Error::InvalidFrameId,
         Error::Malformed,
@@ -60,14 +57,15 @@ impl Error {
         Error::TooFar,
     ];
 
-    /// Its number, 1 to 16.
+    /// Its number, 1 to 16 but not 9.
     pub const fn number(self) -> u8 {
         self as u8
     }
 
-    /// The error of a number; none for 0 and above 16.
+    /// The error of a number; none for 0, 9 and above 16.
     pub const fn from_number(number: u8) -> Option<Error> {
-        if 1 <= number && number <= 16 { Some(Error::ALL[number as usize - 1]) } else { None }
+        // most calls are not refused: 0 is told before the table is looked at
+        if 1 <= number && (number as usize) < BY_NUMBER.len() { BY_NUMBER[number as usize] } else { None }
     }
 
     const fn text(self) -> &'static str {
@@ -80,7 +78,6 @@ impl Error {
             Error::ShortCid => "a short header is cut",
             Error::Length => "the Length is longer than the datagram",
             Error::Sample => "the packet is too short for header protection",
-            Error::Number => "the packet number is cut",
             Error::UnexpectedEnd => "unexpected end of frame",
             Error::InvalidFrameId => "no frame has this type",
             Error::Malformed => "malformed frame",
@@ -91,6 +88,17 @@ impl Error {
         }
     }
 }
+
+/// The error of each number.
+const BY_NUMBER: [Option<Error>; 17] = {
+    let mut found = [None; 17];
+    let mut i = 0;
+    while i < Error::ALL.len() {
+        found[Error::ALL[i].number() as usize] = Some(Error::ALL[i]);
+        i += 1;
+    }
+    found
+};
 
 impl fmt::Display for Error {
     fn fmt(&self, f: &mut fmt::Formatter<'_>) -> fmt::Result {

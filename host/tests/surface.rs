@@ -24,13 +24,13 @@ fn frame_refused(payload: &[u8]) -> FrameRefused {
 
 #[test]
 fn errors_have_their_numbers_and_a_text() {
-    for (i, error) in Error::ALL.into_iter().enumerate() {
-        assert_eq!(error.number() as usize, i + 1);
+    let given = (1..=16).filter(|&number| number != 9);
+    assert!(Error::ALL.into_iter().map(Error::number).eq(given.clone()));
+    for error in Error::ALL {
         assert_eq!(Error::from_number(error.number()), Some(error));
-        assert!(error.to_string().ends_with(&format!("({})", i + 1)));
+        assert!(error.to_string().ends_with(&format!("({})", error.number())));
     }
-    assert_eq!(Error::from_number(0), None);
-    assert_eq!(Error::from_number(17), None);
+    assert!((0..=u8::MAX).filter(|&number| Error::from_number(number).is_some()).eq(given));
 }
 
 #[test]

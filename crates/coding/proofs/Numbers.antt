@@ -5,7 +5,7 @@ use native.Mathlib.Omega.{arith}
 use mathlib.Core.Bool.{cond}
 use lib.Dec.{eqb}
 use Rattle.coding.specs.Words.{Answer, no, ok}
-use Rattle.coding.specs.Refusals.{numberOf}
+use Rattle.coding.specs.Refusals.{numberOf, NineUnused}
 use Rattle.coding.specs.declared.refusal.Refusal.{Refusal}
 use Rattle.coding.specs.declared.refusal.Refusal.the-variants as ref
 
@@ -20,13 +20,12 @@ refusalOf n =
     (cond (eqb n 6) ref.ShortCid
     (cond (eqb n 7) ref.Length
     (cond (eqb n 8) ref.Sample
-    (cond (eqb n 9) ref.Number
     (cond (eqb n 10) ref.UnexpectedEnd
     (cond (eqb n 11) ref.InvalidFrameId
     (cond (eqb n 12) ref.Malformed
     (cond (eqb n 13) ref.NoFrames
     (cond (eqb n 14) ref.Argument
-    (cond (eqb n 15) ref.Room ref.TooFar))))))))))))))
+    (cond (eqb n 15) ref.Room ref.TooFar)))))))))))))
 
 pub refusal-back : (r : Refusal) → refusalOf (numberOf r) ≡ r
 refusal-back ref.PacketEnd = refl
@@ -37,7 +36,6 @@ refusal-back ref.Token = refl
 refusal-back ref.ShortCid = refl
 refusal-back ref.Length = refl
 refusal-back ref.Sample = refl
-refusal-back ref.Number = refl
 refusal-back ref.UnexpectedEnd = refl
 refusal-back ref.InvalidFrameId = refl
 refusal-back ref.Malformed = refl
@@ -48,6 +46,12 @@ refusal-back ref.TooFar = refl
 
 pub one-refusal : (r s : Refusal) → numberOf r ≡ numberOf s → r ≡ s
 one-refusal r s e = sym (refusal-back r) ∙ ap refusalOf e ∙ refusal-back s
+
+-- 9 is the number of none: the refusal of 9 would be that of 16
+pub nine-unused : NineUnused
+nine-unused r e =
+    let last : r ≡ ref.TooFar = sym (refusal-back r) ∙ ap refusalOf e in
+    omega (arith, sym e ∙ ap numberOf last)
 
 -- an answer that is a value, or a refusal with a number that is not 0
 abbrev pub Refuses : {A : Type 0} → Answer A → Type 0

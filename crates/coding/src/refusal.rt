@@ -1,4 +1,5 @@
-// What a call may say no with (document 01). What 4 and 10 to 12 carry besides their number stands beside them.
+// What a call may say no with (document 01). What 4 and 10 to 12 carry besides their number stands beside them. 9 is the
+// number of none (document 02, request 09).
 ghost use mathlib.Core.Path.{_≡_};
 ghost use Rattle.coding.specs.Refusals.{numberOf};
 
@@ -19,8 +20,6 @@ pub enum Refusal {
     Length,
     // 8: the packet is shorter than its number offset + 4 + 16
     Sample,
-    // 9: the packet number is cut
-    Number,
     // 10: a frame's field is cut
     UnexpectedEnd,
     // 11: no frame has this type
@@ -51,7 +50,6 @@ impl Refusal {
             Refusal::ShortCid => 6,
             Refusal::Length => 7,
             Refusal::Sample => 8,
-            Refusal::Number => 9,
             Refusal::UnexpectedEnd => 10,
             Refusal::InvalidFrameId => 11,
             Refusal::Malformed => 12,

@@ -10,9 +10,8 @@ use lib.Dec.{leb}
 use borrow.Author.Tests.{le-ltb, le-leb, leb-true, ne-eqb}
 use Rattle.coding.specs.Words.{if_then_else_, Answer, no, ok}
 use Rattle.coding.specs.Bytes.{byteAt}
-use Rattle.coding.specs.Reading.{fixedAt}
 use Rattle.coding.specs.declared.Place.{Place}
-use Rattle.coding.proofs.Rules.{if-all, then-all}
+use Rattle.coding.proofs.Rules.{if-all}
 use Rattle.coding.proofs.Numbers.{Refuses, fourteen}
 use Rattle.packet.specs.Header.{initial, zeroRtt, handshake, retry, short, negotiate, kindOf, isLong, spaceIn}
 use Rattle.number.specs.Cutting.{tagLength}
@@ -80,7 +79,7 @@ module _ (isLong : Bool) (s : List ℕ) (at : ℕ) (mask : List ℕ) where
   open-roomy =
       if-all Roomy _ _ _ (λ _. fourteen) (λ _.
       if-all Roomy _ _ _ (λ room.
-      if-all Roomy _ _ _ (λ _. then-all Roomy (fixedAt 4 s at) _ _ (λ _ z. omega (arith, z)) (λ word next _. leb-true _ _ room)) (λ _. fourteen))
+      if-all Roomy _ _ _ (λ _. leb-true _ _ room) (λ _. fourteen))
       (λ _ z. omega (arith, z)))
 
   size-roomy : (a : Answer (List ℕ)) → Roomy a → Roomy (inSize s a)

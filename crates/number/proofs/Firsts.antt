@@ -50,12 +50,3 @@ be-shorter n k x h j =
     let m : x % 256 ^ n ≡ x = mod-eq-of-lt j in
     let v : be 0 (take n (bytesBE n x)) ≡ x = ap (be 0) (take-all n (bytesBE n x) (omega (arith, len))) ∙ be-bytes n 0 x ∙ rw m (omega arith) in
     sym (be-first (bytesBE n x) n k (octets-bytes n x) h (omega (arith, len))) ∙ ap (λ (y : ℕ). y / 256 ^ (n - k)) v
-
--- of n bytes, the first k are those of the number that the n make
-pub be-again : (l : List ℕ) (n k : ℕ) → Octets l → k ≤ n → n ≤ length l → be 0 (take k (bytesBE n (be 0 (take n l)))) ≡ be 0 (take k l)
-be-again l n k o h j =
-    let len : length (take n l) ≡ n = simp length-take (omega arith) in
-    let b : be 0 (take n l) < 1 * 256 ^ length (take n l) = be-below (take n l) 0 1 (octets-take n l o) (omega arith) in
-    let b′ : be 0 (take n l) < 256 ^ length (take n l) = omega (arith, b) in
-    let c : be 0 (take n l) < 256 ^ n = rw len at b′ in
-    be-shorter n k (be 0 (take n l)) h c ∙ be-first l n k o h j

@@ -8,25 +8,13 @@ use native.Mathlib.Nat.{not-suc-le-zero}
 use native.Mathlib.Omega.{arith}
 use lib.Bits.{bitAnd, bitXor}
 use lib.Dec.{leb, eqb}
-use lib.ListN.{length, take, drop, set, length-drop, length-set}
-use borrow.Author.Tests.{lt-ltb, le-ltb, le-leb, eq-eqb, ne-eqb, leb-true, not-true, not-false}
-use Rattle.coding.specs.Words.{if_then_else_, cut, got, andThen, Answer, no, ok, maxDatagram}
-use Rattle.coding.specs.Bytes.{byteAt, be, bytesBE}
-use Rattle.coding.specs.Reading.{fixedAt}
-use Rattle.coding.specs.Refusals.{numberOf}
-use Rattle.coding.specs.declared.refusal.Refusal.{Refusal}
-use Rattle.coding.specs.Said.{u32Of}
-use Rattle.coding.specs.declared.U32Read.{U32Read}
-use Rattle.coding.specs.declared.U32Read.the-variants as u32
-use Rattle.coding.proofs.Laws.{Octets, octets-drop, whole, fixed-some}
+use lib.ListN.{length, drop, set, length-drop, length-set}
+use borrow.Author.Tests.{lt-ltb, le-ltb, eq-eqb, ne-eqb, leb-true, not-true, not-false}
+use Rattle.coding.specs.Words.{if_then_else_, Answer, no, ok, maxDatagram}
+use Rattle.coding.specs.Bytes.{byteAt}
 use Rattle.shared.specs.FirstByte.{longHeaderForm, longReservedBits, shortReservedBits, keyPhaseBit}
 use Rattle.shared.specs.declared.kinds.CutNumber.{CutNumber}
-use Rattle.number.specs.Cutting.{tagLength, firstCut, cutRead}
-use Rattle.number.specs.Said.{cutMadeOf}
-use Rattle.number.specs.declared.CutMade.{CutMade}
-use Rattle.number.specs.declared.CutMade.the-variants as made
-use Rattle.number.proofs.Cuts.{read-some}
-use Rattle.number.proofs.Firsts.{be-again}
+use Rattle.number.specs.Cutting.{tagLength, firstCut}
 use Rattle.protect.specs.Protection.{xor, xorAt, firstMask, numberMask, masked, applied, removed}
 use Rattle.protect.specs.Tests.{inSize, hasSample, formBit, numberBytes, numberFits, leastHeader, headerTests}
 use Rattle.protect.specs.Steps.{readOff, leftBy, Changed, sampleAt, Opened, unnumbered, openedBy, opened, openAt, Opens, finishAt, finished, Finishes, protectAt, Protects, maskNumber, maskAt, Masks}
@@ -34,6 +22,7 @@ use Rattle.protect.specs.Said.{finishedOf}
 use Rattle.protect.specs.declared.Finished.the-variants as fin
 use Rattle.protect.proofs.Xor.{length-xorAt}
 use Rattle.protect.proofs.Parts.{first-stored}
+use Rattle.protect.proofs.Inside.{four-left}
 
 -- ---- a test that a function of its own made, by what the code saw of it
 
@@ -73,42 +62,22 @@ first-masked long mask (suc at) n (b ∷ l) h k = refl
 
 -- ---- finish
 
--- the length that a first byte has is one of the four: its number is never refused
-module _ (r : CutMade) (len first : ℕ) (bs : List ℕ) (el : len ≡ tagLength first) (e : cutMadeOf r ≡ cutRead len bs) where
-  made-is : cutMadeOf r ≡ ok (firstCut (tagLength first) bs)
-  made-is = e ∙ rw el (sym (read-some (tagLength first) bs (omega arith) (omega arith)))
-
-  pub decoded : (number : CutNumber) → r ≡ made.Cut number → number ≡ firstCut (tagLength first) bs
-  unfolding cutMadeOf
-  decoded number q = let s : ok number ≡ ok (firstCut (tagLength first) bs) = rw q at made-is in cc
-
-  pub not-refused : (why : Refusal) → r ≡ made.Refused why → ⊥
-  unfolding cutMadeOf
-  not-refused why q =
-      let s : no (numberOf why) ≡ ok (firstCut (tagLength first) bs) = rw q at made-is in
-      let z : _≡_ {A = ℕ} 0 1 = cc in
-      omega arith
-
 -- what is said of a long and of a short packet
-module _ (first : ℕ) {number n : CutNumber} (e : number ≡ n) where
-  pub said-long : finishedOf (fin.Long number (eqb (bitAnd first longReservedBits) 0)) ≡ ok (openedBy true first n)
+module _ (first : ℕ) (number : CutNumber) where
+  pub said-long : finishedOf (fin.Long number (eqb (bitAnd first longReservedBits) 0)) ≡ ok (openedBy true first number)
   unfolding finishedOf openedBy if_then_else_
-  said-long = rw e
+  said-long = refl
 
-  pub said-short : finishedOf (fin.Short number (eqb (bitAnd first shortReservedBits) 0) (eqb (first / keyPhaseBit % 2) 1)) ≡ ok (openedBy false first n)
+  pub said-short : finishedOf (fin.Short number (eqb (bitAnd first shortReservedBits) 0) (eqb (first / keyPhaseBit % 2) 1)) ≡ ok (openedBy false first number)
   unfolding finishedOf openedBy if_then_else_
-  said-short = rw e
+  said-short = refl
 
--- after the mask, four bytes are still there: 9 is never given
-pub not-cut : (packet ms : List ℕ) (at b : ℕ) {new : List ℕ} {r : U32Read} → hasSample (length packet) at ≡ true → new ≡ xorAt at ms (set packet 0 b)
-    → u32Of r ≡ fixedAt 4 new at → r ≡ u32.End → ⊥
-unfolding u32Of
-not-cut packet ms at b {new} k e er q =
+-- the mask takes none of the number's bytes away
+pub still-left : (packet ms : List ℕ) (at b n : ℕ) {new : List ℕ} → hasSample (length packet) at ≡ true → n ≤ 4 → new ≡ xorAt at ms (set packet 0 b)
+    → at + n ≤ length new
+still-left packet ms at b n {new} k h e =
     let l : length new ≡ length packet = ap length e ∙ length-xorAt at ms (set packet 0 b) ∙ length-set packet 0 b in
-    let g = fixed-some 4 new at (be 0 (take 4 (drop at new))) (omega (arith, leb-true (at + 4 + 16) (length packet) k)) refl in
-    let c : cut ≡ fixedAt 4 new at = rw q at er in
-    let z : _≡_ {A = ℕ} 0 1 = cc in
-    omega arith
+    omega (arith, l, four-left packet at k, length-drop at packet)
 
 module _ (long : Bool) (packet : List ℕ) (at : ℕ) (mask : List ℕ) where
   pub open-zero : at ≡ 0 → openAt long packet at mask ≡ no 14
@@ -130,11 +99,11 @@ module _ (long : Bool) (packet : List ℕ) (at : ℕ) (mask : List ℕ) where
         reach = omega (arith, leb-true (at + 4 + 16) (length packet) k)
 
         pub open-ok : openAt long packet at mask ≡ ok (removed long mask at packet)
-        unfolding openAt if_then_else_ fixedAt andThen
-        open-ok = rw (ne-eqb at 0 h, k, eq-eqb (byteAt packet 0 / longHeaderForm) (formBit long) f, le-leb (at + 4) (length packet) (omega (arith, reach)))
+        unfolding openAt if_then_else_
+        open-ok = rw (ne-eqb at 0 h, k, eq-eqb (byteAt packet 0 / longHeaderForm) (formBit long) f)
 
         module _ (m n : ℕ) (new : List ℕ) (em : m ≡ firstMask long (byteAt mask 0)) (en : n ≡ tagLength (bitXor (byteAt packet 0) m))
-            (e₀ : new ≡ xorAt at (numberMask n mask) (set packet 0 (bitXor (byteAt packet 0) m))) (r : U32Read) (er : u32Of r ≡ fixedAt 4 new at) where
+            (e₀ : new ≡ xorAt at (numberMask n mask) (set packet 0 (bitXor (byteAt packet 0) m))) where
           e : new ≡ masked long mask at n packet
           e = e₀ ∙ first-stored long mask at n m packet (omega (arith, reach)) em
 
@@ -142,21 +111,14 @@ module _ (long : Bool) (packet : List ℕ) (at : ℕ) (mask : List ℕ) where
           unfolding removed
           is-removed = e ∙ ap (λ (j : ℕ). masked long mask at j packet) (en ∙ ap (λ (x : ℕ). tagLength (bitXor (byteAt packet 0) x)) em)
 
-          pub open-done : (word next : ℕ) (said : Answer Opened) → Octets new → r ≡ u32.Num word next
-              → said ≡ ok (openedBy long (bitXor (byteAt packet 0) m) (firstCut (tagLength (bitXor (byteAt packet 0) m)) (bytesBE 4 word)))
-              → Opens long packet at mask said new
-          unfolding u32Of fixedAt opened
-          open-done word next said o q s =
-              let g : got word next ≡ fixedAt 4 new at = rw q at er in
-              let w = whole new at 4 next (be 0 (take 4 (drop at new))) word (sym g) in
+          pub open-done : (said : Answer Opened) → said ≡ ok (openedBy long (bitXor (byteAt packet 0) m) (firstCut n (drop at new))) → Opens long packet at mask said new
+          unfolding opened
+          open-done said s =
               let b : byteAt new 0 ≡ bitXor (byteAt packet 0) m =
               ap (λ (l : List ℕ). byteAt l 0) e
               ∙ first-masked long mask at n packet (omega (arith, reach)) (omega (arith, reach))
               ∙ ap (bitXor (byteAt packet 0)) (sym em) in
-              let four : 4 ≤ length (drop at new) = simp length-drop (omega (arith, w .0)) in
-              let v : be 0 (take (tagLength (byteAt new 0)) (bytesBE 4 (be 0 (take 4 (drop at new))))) ≡ be 0 (take (tagLength (byteAt new 0)) (drop at new)) =
-              be-again (drop at new) 4 (tagLength (byteAt new 0)) (octets-drop at new o) (omega arith) four in
-              changed-ok (opened long at) packet (open-ok ∙ ap ok (sym is-removed)) (s ∙ rw (← b, ← w .1 .1, v))
+              changed-ok (opened long at) packet (open-ok ∙ ap ok (sym is-removed)) (s ∙ rw (b, ← en))
 
 -- ---- the header's tests
 

@@ -1,5 +1,6 @@
 pub mod Xor
 pub mod Parts
+pub mod Inside
 pub mod Cases
 pub mod Back
 pub mod Inverse

@@ -8,9 +8,8 @@ use lib.ListN.{length, drop}
 use lib.Bits.{bitAnd}
 use lib.Dec.{eqb}
 use denote.Ref.{RefT, now}
-use Rattle.coding.specs.Words.{if_then_else_, andThen, Answer, no, ok}
+use Rattle.coding.specs.Words.{if_then_else_, Answer, no, ok}
 use Rattle.coding.specs.Bytes.{byteAt}
-use Rattle.coding.specs.Reading.{fixedAt}
 use Rattle.coding.specs.Places.{Part, startOf, partOf}
 use Rattle.coding.specs.declared.Place.{Place}
 use Rattle.shared.specs.FirstByte.{longHeaderForm, longReservedBits, shortReservedBits, keyPhaseBit}
@@ -68,9 +67,7 @@ unfoldable pub openAt : Bool → List ℕ → ℕ → List ℕ → Answer (List 
 openAt isLong packet at mask =
     if eqb at 0 then no 14 else
     if hasSample (length packet) at then
-    (if eqb (byteAt packet 0 / longHeaderForm) (formBit isLong) then
-    andThen (fixedAt 4 packet at) (no 9) (λ word next. ok (removed isLong mask at packet))
-    else no 14)
+    (if eqb (byteAt packet 0 / longHeaderForm) (formBit isLong) then ok (removed isLong mask at packet) else no 14)
     else no 8
 
 abbrev pub Opens : Bool → List ℕ → ℕ → List ℕ → Answer Opened → List ℕ → Type 0

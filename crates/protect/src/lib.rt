@@ -3,8 +3,6 @@
 use coding::MAX_DATAGRAM;
 use coding::Place;
 use coding::Refusal;
-use coding::U32Read;
-use number::CutMade;
 use shared::CutNumber;
 use shared::KEY_PHASE_BIT;
 use shared::LONG_HEADER_FORM;
@@ -13,10 +11,9 @@ use shared::SHORT_RESERVED_BITS;
 ghost use mathlib.Core.Path.{_≡_};
 ghost use mathlib.Core.Bool.{true};
 ghost use Prim.Native.Nat.{_+_, _≤_};
-ghost use lib.ListN.{length, set};
+ghost use lib.ListN.{length, drop, set};
 ghost use Rattle.coding.specs.Words.{ok};
-ghost use Rattle.coding.specs.Bytes.{bytesBE};
-ghost use Rattle.number.specs.Cutting.{tagLength, firstCut};
+ghost use Rattle.number.specs.Cutting.{firstCut};
 ghost use Rattle.protect.specs.Protection.{xor, xorAt, firstMask, numberMask};
 ghost use Rattle.protect.specs.Tests.{hasSample, formBit, numberBytes, numberFits, leastHeader, headerTests};
 ghost use Rattle.protect.specs.Steps.{sampleAt, openedBy, Opens, Finishes, PartAt, headerPlace, payloadPlace, Protects, Masks};
@@ -144,13 +141,24 @@ fn mask_header(packet: &mut [u8], number_offset: usize, first: u8, n: usize, mas
     mask_number(&mut packet[number_offset..], n, mask);
 }
 
-// What the first byte without its mask and the four bytes from the number offset on say.
-fn say_opened(long: bool, first: u8, word: u32) -> Finished
-    ensures { λ r. ⌜ finishedOf r ≡ ok (openedBy long first (firstCut (tagLength first) (bytesBE 4 word))) ⌝ }
+// The number of len bytes at the number offset.
+fn decode(len: usize, packet: &[u8], number_offset: usize) -> CutNumber
+    requires { ⌜ (len ≤ 4) × («number_offset» + len ≤ length (now packet)) ⌝ }
+    ensures { λ r. ⌜ r ≡ firstCut len (drop «number_offset» (now (packet .entry))) ⌝ }
 {
-    let CutMade::Cut(number) = number::decode(number::decode_len(first), word) else {
-        return Finished::Refused(Refusal::Argument);
-    };
+    let mut value: u32 = 0;
+    let mut i: usize = 0;
+    while i < len {
+        value = value * 256 + packet[number_offset + i] as u32;
+        i += 1;
+    }
+    CutNumber(len, value)
+}
+
+// What the first byte without its mask and the number say.
+fn say_opened(long: bool, first: u8, number: CutNumber) -> Finished
+    ensures { λ r. ⌜ finishedOf r ≡ ok (openedBy long first number) ⌝ }
+{
     if long {
         return Finished::Long {
             number,
@@ -201,10 +209,8 @@ fn finish_numbered(long: bool, packet: &mut [u8], number_offset: usize, mask: [u
     let first = hidden ^ first_mask(mask[0], long);
     let len = number::decode_len(first);
     mask_header(packet, number_offset, first, len, mask);
-    let U32Read::Num(word, _) = coding::get_u32(packet, number_offset) else {
-        return Finished::Refused(Refusal::Number);
-    };
-    say_opened(long, first, word)
+    let number = decode(len, packet, number_offset);
+    say_opened(long, first, number)
 }
 
 // Takes the header protection off a packet where it stands, and answers its number.

@@ -81,6 +81,11 @@ fn bytes(n: u64) -> String {
     hex(&(0..n).map(|i| (0xa0 + i) as u8).collect::<Vec<u8>>())
 }
 
+/// The same with another first byte, where there is one.
+fn begun(first: u8, n: u64) -> String {
+    if n == 0 { bytes(n) } else { format!("{first:02x}{}", &bytes(n)[2..]) }
+}
+
 /// Every number within three of a power of two.
 fn edges() -> Vec<u64> {
     let mut all: Vec<u64> =

@@ -1,8 +1,9 @@
 use lib.ListN.{length}
+use Prim.Native.Nat.{_≤_}
 use mathlib.Core.Path.{_∙_}
 use native.Mathlib.Omega.{arith}
 use Rattle.protect.specs.Said.{finishedOf}
-use Rattle.protect.proofs.Cases.{told, denied, reaches, changed-no, open-zero, open-short, open-form, not-cut, open-done}
+use Rattle.protect.proofs.Cases.{told, denied, reaches, changed-no, open-zero, open-short, open-form, still-left, open-done}
 use borrow.Author.Needs.{needs}
 use Rattle.protect.proofs.finish_numbered.Statement.{statement}
 use Rattle.protect.proofs.finish_numbered.Tie as tie
@@ -57,43 +58,29 @@ mask-header-requires c κs =
     let h = reaches (length (a .packet .now)) (a .number-offset) (s .before .has-sample .ensures) (s .if2 .left) in
     (omega (arith, c .before .decode-len .ensures), omega arith)
 
-get-u32-requires : tie.Need-get-u32-requires
-get-u32-requires c κs = search needs
+decode-requires : tie.Need-decode-requires
+decode-requires c κs =
+    let m = c .before .before .before in
+    let n = m .before .before in
+    let s = n .before .before .before .before .before .before in
+    let k : n .decode-len .result ≤ 4 = omega (arith, n .decode-len .ensures) in
+    (k, still-left (s .before .before .before .before .args .packet .now) _ _ _ _ (told (s .before .has-sample .ensures) (s .if2 .left)) k (m .mask-header .ensures))
 
-enum-known-word : tie.Need-enum-known-word
-enum-known-word c = search needs
-
-enum-told : tie.Need-enum-told
-enum-told c = search needs
+say-opened-requires : tie.Need-say-opened-requires
+say-opened-requires c κs = search needs
 
 same-length : tie.Need-same-length
 same-length c = search needs
 
 returns-4 : tie.Need-returns-4
 returns-4 c =
-    let m = c .before .before .before .before .before .before in
-    let s = m .before .before .before .before .before .before .before .before in
-    absurd
-    (not-cut (s .before .before .before .before .args .packet .now) _ _ _ (told (s .before .has-sample .ensures) (s .if2 .left))
-    (m .mask-header .ensures) (c .before .before .get-u32 .ensures) (c .enum-told .given .1))
-
-say-opened-requires : tie.Need-say-opened-requires
-say-opened-requires c κs = search needs
-
-same-length-2 : tie.Need-same-length-2
-same-length-2 c = search needs
-
-returns-5 : tie.Need-returns-5
-returns-5 c =
-    let g = c .before .before .before .before in
-    let m = g .before .before .before .before in
+    let m = c .before .before .before .before .before in
     let n = m .before .before in
     let f = n .before in
     let b = f .before .before in
     let s = b .before .before .before in
     open-done _ _ _ _ (s .before .before .if1 .left) (told (s .before .has-sample .ensures) (s .if2 .left)) (b .if3 .left ∙ b .before .form-bit .ensures) _ _ _
-    (f .first-mask .ensures) (n .decode-len .ensures) (m .mask-header .ensures) _ (g .get-u32 .ensures) _ _ _
-    (λ i. omega (arith, c .before .before .before .before .before .before .slice-known4 .given i)) (c .before .before .word .given .1) (c .say-opened .ensures)
+    (f .first-mask .ensures) (n .decode-len .ensures) (m .mask-header .ensures) _ (c .say-opened .ensures ∙ rw (c .before .decode .ensures))
 
 pub finish-numbered-spec : {M : Type 1} → statement M
 finish-numbered-spec =
@@ -110,11 +97,7 @@ finish-numbered-spec =
     first-mask-requires
     decode-len-requires
     mask-header-requires
-    get-u32-requires
-    enum-known-word
-    enum-told
-    same-length
-    returns-4
+    decode-requires
     say-opened-requires
-    same-length-2
-    returns-5)
+    same-length
+    returns-4)

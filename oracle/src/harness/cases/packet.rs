@@ -4,7 +4,7 @@ use super::super::rng::Rng;
 use super::super::table::KINDS;
 use super::super::words::{hex, unhex};
 use super::packet_out::{MOST, cid_len, good, token_len};
-use super::{Made, bytes};
+use super::{Made, begun, bytes};
 
 pub const MADE: &[Made] = &[
     ("decode", 4, read),
@@ -370,16 +370,17 @@ fn lengths(emit: &mut dyn FnMut(String)) {
     }
 }
 
-/// Every kind and offset with packets around what rule 8 asks for, and past all of them.
+/// Every kind with every packet of up to 40 bytes and those around what rule 8 asks for, every offset in them and past them, and
+/// every length of a number under either form.
 fn offsets(emit: &mut dyn FnMut(String)) {
-    let far = [1 << 32, u64::MAX - 20, u64::MAX - 19, u64::MAX];
+    let far = [50, 1 << 32, u64::MAX - 20, u64::MAX - 19, u64::MAX];
     for (kind, _) in KINDS {
-        for offset in (0..8).chain([18, 50]).chain(far) {
-            for n in (0..4).chain((offset.min(50) + 16)..(offset.min(50) + 24)) {
-                for first in ["45", "c6"] {
-                    let packet = if n == 0 { "-".into() } else { format!("{first}{}", &bytes(n)[2..]) };
-                    emit(format!("sample {kind} {offset} {packet}"));
-                    emit(format!("finish {kind} {offset} {MASK} {packet}"));
+        for offset in (0..=41).chain(far) {
+            let around = offset.min(50) + 16..offset.min(50) + 24;
+            for n in (0..=40).chain(around.start.max(41)..around.end) {
+                emit(format!("sample {kind} {offset} {}", bytes(n)));
+                for first in (0x44..0x48).chain(0xc4..0xc8) {
+                    emit(format!("finish {kind} {offset} {MASK} {}", begun(first, n)));
                 }
             }
         }

@@ -1,7 +1,7 @@
 //! Cases of packets out: encode, the Length step, the mask step, and all of it.
 use super::super::rng::Rng;
 use super::super::words::hex;
-use super::{Made, bytes};
+use super::{Made, begun, bytes};
 
 pub const MADE: &[Made] = &[("henc", 10, henc), ("hlen", 6, hlen), ("hmask", 8, hmask), ("whole", 8, whole)];
 
@@ -235,14 +235,12 @@ fn number_lens() -> impl Iterator<Item = Option<u64>> {
 fn steps(emit: &mut dyn FnMut(String)) {
     for k in number_lens() {
         for has_length in [false, true] {
-            for header_len in (0..12).chain([usize::MAX - 1, usize::MAX]) {
+            for header_len in (0..=44).chain([usize::MAX - 1, usize::MAX]) {
                 let told = told_words(header_len, k, has_length);
-                for n in 0..36 {
-                    let packet = bytes(n);
-                    emit(format!("hlen {told} {packet}"));
-                    for first in ["40", "43", "c2", "e1"] {
-                        let packet = if n == 0 { packet.clone() } else { format!("{first}{}", &packet[2..]) };
-                        emit(format!("hmask {told} 0102040810 {packet}"));
+                for n in 0..=40 {
+                    emit(format!("hlen {told} {}", bytes(n)));
+                    for first in (0x40..0x44).chain(0xe0..0xe4) {
+                        emit(format!("hmask {told} 0102040810 {}", begun(first, n)));
                     }
                 }
             }
@@ -255,7 +253,7 @@ fn steps(emit: &mut dyn FnMut(String)) {
     for first in 0..=0xff {
         for m in 0..=0xff {
             let told = told_words(4, Some(1), first & 0x80 != 0);
-            emit(format!("hmask {told} {m:02x}11223344 {first:02x}{}", &bytes(24)[2..]));
+            emit(format!("hmask {told} {m:02x}11223344 {}", begun(first, 24)));
         }
     }
 }

@@ -5,7 +5,7 @@
 use super::super::*;
 use super::ends::{Ends, Said};
 use super::number::raw;
-use super::reading::{MAX_DATAGRAM, Reader, Taken, number, number_after_split, sampled};
+use super::reading::{MAX_DATAGRAM, Reader, Taken, number, sampled};
 use super::writing::{Refused, Step, Words, after_length};
 use crate::crypto::MaskKey;
 use crate::harness::differences::{FORM_BIT, SHORT_BUFFER, SIZE_65527, decided, settle};
@@ -164,7 +164,7 @@ pub(crate) fn gunmask(a: &mut Args, out: &mut String) -> Result<(), Bad> {
     };
     let form = || if taken.has_other_form() { decided(FORM_BIT, no(14)) } else { None };
     settle(out, taken.decided(no, no(0)).or_else(form), || match taken.partial().finish(Some(&MaskKey(mask))) {
-        Err(e) => no(number_after_split(&e)),
+        Err(e) => no(number(&e)),
         Ok(p) => unmasked(&p, offset as usize),
     });
     Ok(())

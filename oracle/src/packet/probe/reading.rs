@@ -34,11 +34,6 @@ pub(super) fn number(e: &PacketDecodeError) -> u32 {
     }
 }
 
-/// After the split only the packet number can be cut: rule 9, whose text is rule 1's.
-pub(super) fn number_after_split(e: &PacketDecodeError) -> u32 {
-    if number(e) == 1 { 9 } else { number(e) }
-}
-
 fn refusal(e: &PacketDecodeError) -> String {
     let said = format!("no {}", number(e));
     match e {
@@ -191,7 +186,7 @@ fn walked(reader: &Reader, datagram: &[u8]) -> String {
 fn finished(part: PartialDecode, packet: &[u8], key: &dyn HeaderKey) -> String {
     let kind = kind(&part.plain_header);
     let p = match part.finish(Some(key)) {
-        Err(e) => return format!("no {} {}", number_after_split(&e), hex(packet)),
+        Err(e) => return format!("no {} {}", number(&e), hex(packet)),
         Ok(p) => p,
     };
     let phase = if p.header.is_short() { u8::from(p.header.key_phase()).to_string() } else { "-".into() };
@@ -290,7 +285,7 @@ impl HeaderKey for Noting {
 pub(super) fn sampled(taken: &Taken) -> Result<Option<(usize, usize)>, u32> {
     let key = Noting::default();
     let finished = taken.partial().finish(Some(&key));
-    finished.map(|_| key.0.get().map(|offset| (offset + 4, key.sample_size()))).map_err(|e| number_after_split(&e))
+    finished.map(|_| key.0.get().map(|offset| (offset + 4, key.sample_size()))).map_err(|e| number(&e))
 }
 
 /// sample KIND OFFSET B -> ok START LEN | none | no N: by the offset that finish gives the header key, four bytes on
