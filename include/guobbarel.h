@@ -1,4 +1,4 @@
-/* Guobbarel over C: the packet layer of QUIC (RFC 9000, 9001, 9221) on lent bytes.
+/* Guobbarel over C: the packet layer of QUIC (RFC 9000, 9001, 9221, 9369) on lent bytes.
  *
  * Link target/staticlib/libgateway.a, which `rt staticlib gateway` writes. It needs no heap, no lock and no other library,
  * and keeps nothing between two calls, so any number of threads may call it.
@@ -46,7 +46,14 @@ enum guobbarel_refusal {
     GUOBBAREL_NO_TOO_FAR = 16          /* the number is 2^31 or more above the largest acknowledged */
 };
 
-/* The kinds of packet. */
+/* The versions that are told apart: a long header of version 2 has the type bits of RFC 9369, 3.2, one of any other version, listed
+ * or written, those of RFC 9000, 17.2. */
+enum guobbarel_version {
+    GUOBBAREL_VERSION_1 = 1,
+    GUOBBAREL_VERSION_2 = 0x6b3343cf
+};
+
+/* The kinds of packet, by what they are: a version's type bits do not show. */
 enum guobbarel_kind {
     GUOBBAREL_INITIAL = 0,
     GUOBBAREL_0RTT = 1,

@@ -1,12 +1,13 @@
 //! The bytes of an input as a case, and a case as bytes. Any bytes are a case: what is missing at their end is 0 or empty.
 //! The first byte is the operation, the second says what is stretched and how far, and then come the fields.
+use oracle::harness::rng::VERSION_2;
 use oracle::harness::words::{Args, Bad, hex_into};
 use std::fmt::Write;
 
 /// The operations, and their fields, a letter each:
 /// - `n` a number, `w` one below 2^32, `y` one below 256, `f` one below 2;
 /// - `m` five bytes, `x` one, `c` at most 255, `b` any, a token; `r` all that are left, last;
-/// - `v` versions, `s` steps of the number ends, last;
+/// - `o` a version, `v` versions; `s` steps of the number ends, last;
 /// - `t` the length of a number, 0 for none: two words, whether there is one and its length;
 /// - `k` a kind of header, `K` a kind with its own fields.
 const OPERATIONS: [(&str, &str); 14] = [
@@ -27,16 +28,18 @@ const OPERATIONS: [(&str, &str); 14] = [
 ];
 
 const KINDS: [(&str, &str); 6] = [
-    ("initial", "wnwccb"),
-    ("0rtt", "wnwcc"),
-    ("handshake", "wnwcc"),
-    ("retry", "wcc"),
+    ("initial", "onwccb"),
+    ("0rtt", "onwcc"),
+    ("handshake", "onwcc"),
+    ("retry", "occ"),
     ("short", "ffnwc"),
     ("vneg", "ycc"),
 ];
 
 /// From this first byte on a number has bytes of its own, one to eight.
 const LONG: u8 = 0xf8;
+/// As a version this byte is version 2; the number that it is elsewhere has a byte of its own there.
+const TWO: u8 = LONG - 1;
 /// What may be stretched, and to within eight bytes of which lengths: the last field, and a token. A Length of two bytes and the
 /// form of a token's length end at 16,384, a packet at 65,527.
 const REST: Edges = Edges { first: 0xe0, lengths: [16_384, 65_527] };
@@ -156,8 +159,16 @@ impl<'a> Input<'a> {
         steps
     }
 
+    fn version(&mut self) -> u32 {
+        if self.left.first() == Some(&TWO) {
+            self.take(1);
+            return VERSION_2;
+        }
+        self.number() as u32
+    }
+
     fn versions(&mut self) -> String {
-        let versions: Vec<String> = (0..self.below(20)).map(|_| (self.number() as u32).to_string()).collect();
+        let versions: Vec<String> = (0..self.below(20)).map(|_| self.version().to_string()).collect();
         if versions.is_empty() { "-".into() } else { versions.join(",") }
     }
 
@@ -167,6 +178,7 @@ impl<'a> Input<'a> {
             match field {
                 'n' => put_number(line, self.number()),
                 'w' => put_number(line, self.below(1 << 32)),
+                'o' => put_number(line, self.version().into()),
                 'y' => put_number(line, self.below(256)),
                 'f' => put_number(line, self.below(2)),
                 'm' => hex_into(line, &self.array::<5>()),
@@ -210,6 +222,7 @@ fn make(fields: &str, args: &mut Args, made: &mut Vec<u8>) -> Result<(), Bad> {
     for field in fields.chars() {
         match field {
             'n' | 'w' | 'y' | 'f' => make_number(made, args.num()?),
+            'o' => make_version(made, args.num()?),
             'm' | 'x' => made.extend(args.bytes()?),
             'c' | 'b' => {
                 let bytes = args.bytes()?;
@@ -226,7 +239,7 @@ fn make(fields: &str, args: &mut Args, made: &mut Vec<u8>) -> Result<(), Bad> {
             'v' => {
                 let versions = args.versions()?;
                 make_number(made, versions.len() as u64);
-                versions.iter().for_each(|&version| make_number(made, version.into()));
+                versions.iter().for_each(|&version| make_version(made, version.into()));
             }
             't' => {
                 args.flag()?;
@@ -252,6 +265,16 @@ fn make_number(made: &mut Vec<u8>, x: u64) {
         made.extend(&x.to_be_bytes()[zeros..]);
     } else {
         made.push(x as u8);
+    }
+}
+
+fn make_version(made: &mut Vec<u8>, x: u64) {
+    if x == VERSION_2.into() {
+        made.push(TWO);
+    } else if x == TWO.into() {
+        made.extend([LONG, TWO]);
+    } else {
+        make_number(made, x);
     }
 }
 
@@ -290,6 +313,9 @@ mod tests {
             let is_asked = surface::ours::answer(&line).is_some();
             assert!(!is_asked || input(&line).is_some_and(|made| case(&made) == line), "{line}");
         }
+        for line in ["walk 0 0 247,1798521807,1 40", "henc retry 247 - - -", "henc retry 1798521807 - - -"] {
+            assert!(input(line).is_some(), "{line}");
+        }
     }
 
     #[test]
@@ -297,6 +323,8 @@ mod tests {
         assert_eq!(case(&[]), "decode 0 0 - -");
         assert_eq!(case(&[8, 0, 1, 2]), "frames 0102");
         assert_eq!(case(&[12, 0, 0xf8]), "pnnew 0 0");
+        assert_eq!(case(&[1, 0, 0, 0, 3, 0xf7, 1, 0xf8, 0xf7, 0x40]), "split 0 0 1798521807,1,247 40");
+        assert_eq!(case(&[5, 0, 3, 0xf7]), "henc retry 1798521807 - - -");
         assert_eq!(case(&[8, 0xf8, 7]).len(), "frames ".len() + 2 * 65_527);
         assert!(too_long().any(|input| case(&input).len() == "frames ".len() + 2 * 65_534));
         assert_eq!(case(&[7, 0xc8]).len(), "whole initial 0 0 0 - -  0000000000 00 -".len() + 2 * 16_384);

@@ -15,13 +15,13 @@ static int failed;
         }                                                              \
     } while (0)
 
-static const uint32_t versions[] = {1};
+static const uint32_t versions[] = {GUOBBAREL_VERSION_1, GUOBBAREL_VERSION_2};
 
 static void split(void) {
     const uint8_t datagram[] = {0xe0, 0, 0, 0, 1, 1, 0xdd, 0, 1, 0xaa, 0x40};
     guobbarel_split_answer a = guobbarel_split(datagram, sizeof datagram, 0, 0, versions, 1, 0);
     EXPECT(a.refusal == GUOBBAREL_OK && a.kind == GUOBBAREL_HANDSHAKE);
-    EXPECT(a.packet.start == 0 && a.packet.len == 10 && a.number_offset == 9 && a.version == 1 && a.length == 1);
+    EXPECT(a.packet.start == 0 && a.packet.len == 10 && a.number_offset == 9 && a.version == GUOBBAREL_VERSION_1 && a.length == 1);
     EXPECT(a.dst_cid.start == 6 && a.dst_cid.len == 1 && a.src_cid.start == 8 && a.src_cid.len == 0);
     a = guobbarel_split(datagram, sizeof datagram, 10, 0, versions, 1, 0);
     EXPECT(a.refusal == GUOBBAREL_OK && a.kind == GUOBBAREL_SHORT && a.packet.start == 10 && a.packet.len == 1);
@@ -30,7 +30,7 @@ static void split(void) {
     a = guobbarel_split(datagram, sizeof datagram, SIZE_MAX, 0, versions, 1, 0);
     EXPECT(a.refusal == GUOBBAREL_OK && a.kind == GUOBBAREL_NO_PACKET);
     a = guobbarel_split(datagram, sizeof datagram, 0, 0, NULL, 0, 0);
-    EXPECT(a.refusal == GUOBBAREL_NO_VERSION && a.version == 1 && a.dst_cid.start == 6 && a.dst_cid.len == 1);
+    EXPECT(a.refusal == GUOBBAREL_NO_VERSION && a.version == GUOBBAREL_VERSION_1 && a.dst_cid.start == 6 && a.dst_cid.len == 1);
     a = guobbarel_split(NULL, 0, 0, 0, NULL, 0, 0);
     EXPECT(a.refusal == GUOBBAREL_NO_PACKET_END && a.kind == GUOBBAREL_NO_PACKET);
     a = guobbarel_split(datagram, sizeof datagram, 0, 0, versions, 1, 2);
@@ -139,7 +139,7 @@ static void headers(void) {
     const uint8_t cid[21] = {0xdd};
     const uint8_t written[] = {0xe0, 0, 0, 0, 1, 1, 0xdd, 0, 0x40, 0x15, 0x09};
     uint8_t out[32];
-    guobbarel_header h = {GUOBBAREL_HANDSHAKE, 0, 0, 0, 1, 9, 1};
+    guobbarel_header h = {GUOBBAREL_HANDSHAKE, 0, 0, 0, GUOBBAREL_VERSION_1, 9, 1};
     memset(out, 0xee, sizeof out);
     guobbarel_header_answer a = guobbarel_header_write(h, cid, 21, NULL, 0, NULL, 0, 20, out, sizeof out);
     EXPECT(a.refusal == GUOBBAREL_NO_ARGUMENT && a.header_len == 0);
@@ -164,6 +164,20 @@ static void headers(void) {
     EXPECT(back.kind == GUOBBAREL_VERSION_NEGOTIATION && back.random == 5);
 }
 
+/* A Handshake packet of version 2, whose type bits are those of a Retry in version 1. */
+static void version_2(void) {
+    const uint8_t packet[] = {0xf0, 0x6b, 0x33, 0x43, 0xcf, 0, 0, 0x40, 0x02, 0x09, 0xaa};
+    uint8_t out[10];
+    guobbarel_split_answer a = guobbarel_split(packet, sizeof packet, 0, 0, versions, 2, 0);
+    EXPECT(a.refusal == GUOBBAREL_OK && a.kind == GUOBBAREL_HANDSHAKE && a.version == GUOBBAREL_VERSION_2);
+    EXPECT(a.packet.len == 11 && a.number_offset == 9 && a.length == 2);
+    a = guobbarel_split(packet, sizeof packet, 0, 0, versions, 1, 0);
+    EXPECT(a.refusal == GUOBBAREL_NO_VERSION && a.version == GUOBBAREL_VERSION_2);
+    guobbarel_header h = {GUOBBAREL_HANDSHAKE, 0, 0, 0, GUOBBAREL_VERSION_2, 9, 1};
+    EXPECT(guobbarel_header_write(h, NULL, 0, NULL, 0, NULL, 0, 1, out, sizeof out).refusal == GUOBBAREL_OK);
+    EXPECT(memcmp(out, packet, sizeof out) == 0);
+}
+
 int main(void) {
     split();
     protection();
@@ -171,6 +185,7 @@ int main(void) {
     numbers();
     halves();
     headers();
+    version_2();
     if (!failed)
         printf("the C surface is as its header says\n");
     return failed;

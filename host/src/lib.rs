@@ -1,4 +1,4 @@
-//! The packet layer of QUIC (RFC 9000, 9001, 9221) on lent bytes: from a datagram to its packets, header protection off and
+//! The packet layer of QUIC (RFC 9000, 9001, 9221, 9369) on lent bytes: from a datagram to its packets, header protection off and
 //! on, from a payload to its frames, packet numbers, and headers out.
 //!
 //! Every call but one goes to `libgateway.a`, whose functions are proved equal to definitions written from the RFCs, for all bytes
@@ -11,11 +11,11 @@
 //! Encryption is the caller's: it makes the mask from a packet's [`sample`], and decrypts and encrypts the payload.
 //!
 //! ```
-//! use guobbarel::{Frame, Frames, Packets};
+//! use guobbarel::{Frame, Frames, Packets, VERSION_1};
 //!
 //! // a Handshake packet whose payload is one byte, and a short packet of one byte
 //! let datagram = [0xe0, 0, 0, 0, 1, 0, 0, 1, 0xaa, 0x40];
-//! let packets = Packets::new(&datagram, 0, &[1], false);
+//! let packets = Packets::new(&datagram, 0, &[VERSION_1], false);
 //! assert_eq!(packets.map(|p| p.unwrap().bytes.len()).collect::<Vec<_>>(), [9, 1]);
 //!
 //! // PING, and a CRYPTO frame of two bytes at offset 0
@@ -39,5 +39,5 @@ pub use error::Error;
 pub use frames::{Ack, EcnCounts, Frame, FrameRefused, Frames, Read, Value};
 pub use header::{Header, Written};
 pub use numbers::{Ends, Sent};
-pub use packets::{Kind, Packet, PacketRefused, Packets, Unmasked, Unsupported, sample, unmask};
+pub use packets::{Kind, Packet, PacketRefused, Packets, Unmasked, Unsupported, VERSION_1, VERSION_2, sample, unmask};
 pub use values::{CutNumber, FrameType, FullNumber, StreamId};

@@ -3,7 +3,13 @@ use crate::ffi;
 use crate::{CutNumber, Error};
 use core::ops::Range;
 
-/// The kinds of packet.
+/// Version 1 of QUIC (RFC 9000).
+pub const VERSION_1: u32 = 1;
+
+/// Version 2 of QUIC (RFC 9369). Its long headers have type bits of their own; those of any other version have version 1's.
+pub const VERSION_2: u32 = 0x6b33_43cf;
+
+/// The kinds of packet, by what they are: a version's type bits do not show.
 #[derive(Clone, Copy, Debug, PartialEq, Eq, Hash)]
 #[repr(u8)]
 pub enum Kind {

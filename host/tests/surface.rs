@@ -7,7 +7,7 @@ fn bytes(hex: &str) -> Vec<u8> {
 }
 
 fn packets(datagram: &[u8]) -> Vec<Result<Packet<'_>, PacketRefused<'_>>> {
-    Packets::new(datagram, 0, &[1], false).collect()
+    Packets::new(datagram, 0, &[VERSION_1], false).collect()
 }
 
 fn refused(datagram: &[u8]) -> Error {
@@ -40,7 +40,7 @@ fn a_datagram_is_walked() {
     assert_eq!(found.len(), 2);
     let first = found[0].unwrap();
     assert_eq!((first.kind, first.start, first.bytes.len(), first.number_offset), (Kind::Handshake, 0, 9, 8));
-    assert_eq!((first.version, first.length), (1, 1));
+    assert_eq!((first.version, first.length), (VERSION_1, 1));
     let second = found[1].unwrap();
     assert_eq!((second.kind, second.start, second.bytes.len(), second.number_offset), (Kind::Short, 9, 1, 1));
     assert!(!second.spin);
@@ -50,12 +50,12 @@ fn a_datagram_is_walked() {
 fn a_header_has_its_parts() {
     let datagram = bytes("c0 00000001 02 d1d2 03 515253 04 70717273 4002 aabb");
     let p = packets(&datagram)[0].unwrap();
-    assert_eq!((p.kind, p.version, p.length), (Kind::Initial, 1, 2));
+    assert_eq!((p.kind, p.version, p.length), (Kind::Initial, VERSION_1, 2));
     assert_eq!((p.dst_cid, p.src_cid, p.token), (&datagram[6..8], &datagram[9..12], &datagram[13..17]));
     assert_eq!(p.number_offset, 19);
 
     let datagram = bytes("60 d1d2d3 00");
-    let p = Packets::new(&datagram, 3, &[1], false).next().unwrap().unwrap();
+    let p = Packets::new(&datagram, 3, &[VERSION_1], false).next().unwrap().unwrap();
     assert_eq!((p.kind, p.spin, p.dst_cid, p.number_offset), (Kind::Short, true, &datagram[1..4], 4));
 
     let datagram = bytes("ff 00000000 01 dd 01 55 00000001");
@@ -65,6 +65,33 @@ fn a_header_has_its_parts() {
     let datagram = bytes("d0 00000001 00 00 00 f0 00000001 00 00");
     let kinds: Vec<Kind> = packets(&datagram).into_iter().map(|p| p.unwrap().kind).collect();
     assert_eq!(kinds, [Kind::ZeroRtt, Kind::Retry]);
+}
+
+/// The kinds of the four type bits, 0 to 3, in packets of a version that is listed.
+fn kinds_of(version: u32) -> [Kind; 4] {
+    let [a, b, c, d] = version.to_be_bytes();
+    [0xc0, 0xd0, 0xe0, 0xf0].map(|first| {
+        let datagram = [first, a, b, c, d, 0, 0, 0, 0];
+        Packets::new(&datagram, 0, &[VERSION_1, VERSION_2, version], false).next().unwrap().unwrap().kind
+    })
+}
+
+#[test]
+fn type_bits_go_by_the_version() {
+    let of_version_1 = [Kind::Initial, Kind::ZeroRtt, Kind::Handshake, Kind::Retry];
+    assert_eq!(kinds_of(VERSION_1), of_version_1);
+    assert_eq!(kinds_of(VERSION_2), [Kind::Retry, Kind::Initial, Kind::ZeroRtt, Kind::Handshake]);
+    for other in [2, VERSION_2 - 1, VERSION_2 + 1, VERSION_2.swap_bytes(), u32::MAX] {
+        assert_eq!(kinds_of(other), of_version_1);
+    }
+
+    // one datagram of both: a Handshake packet each
+    let datagram = bytes("f0 6b3343cf 00 00 01 aa e0 00000001 00 00 01 bb");
+    let found = Packets::new(&datagram, 0, &[VERSION_1, VERSION_2], false).map(|p| p.unwrap());
+    let found: Vec<_> = found.map(|p| (p.kind, p.version, p.range())).collect();
+    assert_eq!(found, [(Kind::Handshake, VERSION_2, 0..9), (Kind::Handshake, VERSION_1, 9..18)]);
+    let no = packets(&datagram)[0].unwrap_err();
+    assert_eq!((no.error, no.unsupported.unwrap().version), (Error::Version, VERSION_2));
 }
 
 #[test]
@@ -77,20 +104,20 @@ fn packets_are_refused() {
     assert_eq!(refused(&bytes("c0 00000001 00 00 05 aa")), Error::Token);
     assert_eq!(refused(&bytes("e0 00000001 00 00 03 aa 40")), Error::Length);
     assert_eq!(refused(&vec![0; 65_528]), Error::Argument);
-    let short = Packets::new(&[0x40, 1, 2], 3, &[1], false).next().unwrap().unwrap_err();
+    let short = Packets::new(&[0x40, 1, 2], 3, &[VERSION_1], false).next().unwrap().unwrap_err();
     assert_eq!(short.error, Error::ShortCid);
-    let long = Packets::new(&[0x40], 21, &[1], false).next().unwrap().unwrap_err();
+    let long = Packets::new(&[0x40], 21, &[VERSION_1], false).next().unwrap().unwrap_err();
     assert_eq!(long.error, Error::Argument);
-    let many = Packets::new(&[0x40], 0, &[1; 17], false).next().unwrap().unwrap_err();
+    let many = Packets::new(&[0x40], 0, &[VERSION_1; 17], false).next().unwrap().unwrap_err();
     assert_eq!(many.error, Error::Argument);
-    let greased = Packets::new(&[0x80, 0, 0, 0, 0, 0, 0], 0, &[1], true).next().unwrap().unwrap();
+    let greased = Packets::new(&[0x80, 0, 0, 0, 0, 0, 0], 0, &[VERSION_1], true).next().unwrap().unwrap();
     assert_eq!((greased.kind, greased.random), (Kind::VersionNegotiation, 0));
 }
 
 #[test]
 fn an_unlisted_version_carries_what_negotiation_needs() {
     let datagram = bytes("40 e0 00000002 02 d1d2 01 55");
-    let all: Vec<_> = Packets::new(&datagram[1..], 0, &[1], false).collect();
+    let all: Vec<_> = Packets::new(&datagram[1..], 0, &[VERSION_1], false).collect();
     let no = all[0].unwrap_err();
     assert_eq!((no.error, no.start), (Error::Version, 0));
     let what = no.unsupported.unwrap();
@@ -100,7 +127,7 @@ fn an_unlisted_version_carries_what_negotiation_needs() {
 
 #[test]
 fn header_protection_comes_off_and_goes_on() {
-    let mut packet = bytes(include_str!("../examples/a2/packet.hex"));
+    let mut packet = bytes(include_str!("../examples/a2/packet1.hex"));
     let masked = packet.clone();
     let mask = [0x43, 0x7b, 0x9a, 0xec, 0x36];
     assert_eq!(sample(Kind::Initial, &packet, 18).unwrap().unwrap()[..], packet[22..38]);
@@ -122,7 +149,7 @@ fn header_protection_comes_off_and_goes_on() {
 /// RFC 9001, A.2's Initial, and behind it in the datagram a Handshake packet and A.5's short one.
 #[test]
 fn header_protection_comes_off_a_packet_of_several() {
-    let initial = bytes(include_str!("../examples/a2/packet.hex"));
+    let initial = bytes(include_str!("../examples/a2/packet1.hex"));
     let handshake = bytes("e1 00000001 00 00 4016 0102 000102030405060708090a0b0c0d0e0f10111213");
     let short = bytes("4cfe4189655e5cd55c41f69080575d7999c25a5bfb");
     let mut datagram = [initial.clone(), handshake.clone(), short.clone()].concat();
@@ -309,7 +336,7 @@ fn numbers_are_sent_read_and_accepted() {
 #[test]
 fn a_header_is_written_masked_and_read_back() {
     let number = CutNumber::new(2, 0x0102);
-    let header = Header::initial(1, number);
+    let header = Header::initial(VERSION_1, number);
     let mut packet = vec![0xee; 100];
     let written = header.write(&[0xd1, 0xd2], &[0x55], &[0x77; 3], 40, &mut packet).unwrap();
     assert_eq!((written.number_len, written.has_length), (2, true));
@@ -336,9 +363,14 @@ fn every_kind_is_written() {
         let written = header.write(&[0xdd], &[0x55], &[], 20, &mut out).unwrap();
         (written.has_length, written.number_len, out[..written.header_len].to_vec())
     };
-    assert_eq!(write(Header::zero_rtt(1, number)), (true, 1, bytes("d0 00000001 01dd 0155 4015 09")));
-    assert_eq!(write(Header::handshake(1, number)), (true, 1, bytes("e0 00000001 01dd 0155 4015 09")));
-    assert_eq!(write(Header::retry(1)), (false, 0, bytes("f0 00000001 01dd 0155")));
+    assert_eq!(write(Header::zero_rtt(VERSION_1, number)), (true, 1, bytes("d0 00000001 01dd 0155 4015 09")));
+    assert_eq!(write(Header::handshake(VERSION_1, number)), (true, 1, bytes("e0 00000001 01dd 0155 4015 09")));
+    assert_eq!(write(Header::retry(VERSION_1)), (false, 0, bytes("f0 00000001 01dd 0155")));
+    assert_eq!(write(Header::initial(VERSION_2, number)), (true, 1, bytes("d0 6b3343cf 01dd 0155 00 4015 09")));
+    assert_eq!(write(Header::zero_rtt(VERSION_2, number)), (true, 1, bytes("e0 6b3343cf 01dd 0155 4015 09")));
+    assert_eq!(write(Header::handshake(VERSION_2, number)), (true, 1, bytes("f0 6b3343cf 01dd 0155 4015 09")));
+    assert_eq!(write(Header::retry(VERSION_2)), (false, 0, bytes("c0 6b3343cf 01dd 0155")));
+    assert_eq!(write(Header::retry(VERSION_2 + 1)), (false, 0, bytes("f0 6b3343d0 01dd 0155")));
     assert_eq!(write(Header::short(true, true, number)), (false, 1, bytes("64 dd 09")));
     assert_eq!(write(Header::version_negotiation(5)), (false, 0, bytes("85 00000000 01dd 0155")));
 }
@@ -348,18 +380,18 @@ fn headers_are_refused_and_leave_the_buffer() {
     let before = [0xee; 70_000];
     let mut out = before;
     let number = CutNumber::new(1, 9);
-    let handshake = Header::handshake(1, number);
+    let handshake = Header::handshake(VERSION_1, number);
     assert_eq!(handshake.write(&[0; 21], &[], &[], 0, &mut out), Err(Error::Argument));
     assert_eq!(handshake.write(&[], &[0; 21], &[], 0, &mut out), Err(Error::Argument));
     assert_eq!(handshake.write(&[], &[], &[], 16_383, &mut out), Err(Error::Argument));
     assert_eq!(handshake.write(&[], &[], &[], usize::MAX, &mut out), Err(Error::Argument));
     assert_eq!(handshake.write(&[], &[], &[], 0, &mut out[..9]), Err(Error::Room));
-    let wrong = Header::handshake(1, CutNumber::new(1, 256));
+    let wrong = Header::handshake(VERSION_1, CutNumber::new(1, 256));
     assert_eq!(wrong.write(&[], &[], &[], 0, &mut out[..9]), Err(Error::Argument));
     let short = Header::short(false, false, number);
     assert_eq!(short.write(&[], &[], &[], 65_526, &mut out), Err(Error::Argument));
     assert_eq!(short.write(&[], &[], &[0; 65_528], 0, &mut out), Err(Error::Argument));
-    let initial = Header::initial(1, number);
+    let initial = Header::initial(VERSION_1, number);
     assert_eq!(initial.write(&[], &[], &[0; 60_000], 6_000, &mut out), Err(Error::Argument));
     assert_eq!(out, before);
     assert_eq!(handshake.write(&[], &[], &[], 16_382, &mut out).unwrap().header_len, 10);

@@ -1,8 +1,31 @@
 //! Classes of answers, and those that must come up.
 use crate::ours;
+use oracle::harness::rng::VERSION_2;
+use oracle::harness::{differences, words::unhex};
 
 /// The steps of a run, by their numbers.
 const STEPS: [&str; 7] = ["send", "acknowledge", "read", "accept", "set next", "set acked", "set largest"];
+
+/// The classes of version 2: of a packet that is read or written its kind; of one that is read or not listed, which of 1 and 2 are
+/// listed, in their order.
+const LONG_2: &str = "initial # version-2,0rtt # version-2,handshake # version-2,retry # version-2";
+const LISTED: &str =
+    "listed: 2 # version-2,listed: 1 then 2 # version-2,listed: 2 then 1 # version-2,listed: 1,listed: neither";
+
+/// What the type bits of version 2 decide, with commas between.
+fn all_of_2(op: &str) -> &'static [&'static str] {
+    match op {
+        "decode" => &[LONG_2, LISTED, "no 1 # version-2,no 5 # version-2"],
+        "split" => &[LONG_2, LISTED, "no 1 # version-2,no 5 # version-2,no 7 # version-2"],
+        "walk" => &[
+            LONG_2,
+            "both versions # version-2,end # version-2,refused 1 # version-2,refused 2 # version-2,refused 3 # version-2",
+            "refused 4 # version-2,refused 5 # version-2,refused 6 # version-2,refused 7 # version-2",
+        ],
+        "henc" | "whole" => &[LONG_2],
+        _ => &[],
+    }
+}
 
 /// Every class that must come up among the answers of an operation: its kinds first, then the rest, with commas between.
 pub fn all(op: &str) -> impl Iterator<Item = &'static str> {
@@ -24,21 +47,50 @@ pub fn all(op: &str) -> impl Iterator<Item = &'static str> {
         "pnexp" => (vec!["ok"], "no 14"),
         _ => (vec![], "an operation without a list"),
     };
-    kinds.into_iter().chain(rest.split(','))
+    kinds.into_iter().chain(rest.split(',')).chain(all_of_2(op).iter().flat_map(|some| some.split(',')))
 }
 
-/// Hands out the class of an answer, of a walk or a run that of each step.
-pub fn each(op: &str, question: &str, answer: &str, count: &mut dyn FnMut(&str)) {
+/// Hands out the class of an answer, of a walk or a run that of each step. The mark of version 2 stands behind a class, no other does.
+pub fn each(op: &str, question: &str, answer: &str, mark: &str, count: &mut dyn FnMut(&str)) {
     let kind_asked = || question.split(' ').nth(1).unwrap_or_default();
+    let is_marked = mark == differences::VERSION_2;
     match op {
-        "walk" => answer.split("; ").for_each(|packet| count(&walked(packet))),
+        "walk" => walked(word(question, 4), answer, is_marked, count),
         "frames" if answer.starts_with("ok") => answer.split(" ; ").skip(1).for_each(|frame| count(framed(frame))),
         "ackiter" => answer.split_terminator(';').for_each(|step| count(ranged(step))),
         "ends" => answer.split_terminator(';').enumerate().for_each(|(i, step)| count(&stepped(question, i, step))),
-        "henc" | "whole" if answer.starts_with("ok") => count(kind_asked()),
-        "decode" | "split" | "finish" if answer.starts_with("ok") => count(word(answer, 1)),
-        _ => count(refusal_or_word(answer)),
+        "henc" | "whole" if answer.starts_with("ok") => count(&with_mark(kind_asked(), is_marked)),
+        "decode" | "split" | "finish" if answer.starts_with("ok") => count(&with_mark(word(answer, 1), is_marked)),
+        _ => count(&with_mark(refusal_or_word(answer), is_marked)),
     }
+    let is_header = matches!(op, "decode" | "split") && matches!(refusal_or_word(answer), "ok" | "no 4");
+    if is_header && version_at(word(question, 4), 0) == Some(VERSION_2) {
+        count(&with_mark(&listed(word(question, 3)), is_marked));
+    }
+}
+
+fn with_mark(class: &str, is_marked: bool) -> String {
+    if is_marked { format!("{class} # {}", differences::VERSION_2) } else { class.into() }
+}
+
+/// The version of the long packet that starts at a place of a datagram; none in a short one.
+fn version_at(datagram: &str, start: usize) -> Option<u32> {
+    let head = unhex(datagram.get(2 * start..2 * start + 10)?).ok()?;
+    let version = head[1..].try_into().ok()?;
+    (head[0] >= 0x80).then_some(u32::from_be_bytes(version))
+}
+
+/// Which of 1 and 2 are listed, in their order.
+fn listed(versions: &str) -> String {
+    let at = |version: u32| versions.split(',').position(|listed| listed == version.to_string());
+    let said = match (at(1), at(VERSION_2)) {
+        (None, None) => "neither",
+        (Some(_), None) => "1",
+        (None, Some(_)) => "2",
+        (one, two) if one < two => "1 then 2",
+        _ => "2 then 1",
+    };
+    format!("listed: {said}")
 }
 
 fn word(text: &str, at: usize) -> &str {
@@ -51,12 +103,22 @@ fn refusal_or_word(answer: &str) -> &str {
     answer.match_indices(' ').nth(words - 1).map_or(answer, |(end, _)| &answer[..end])
 }
 
-/// START LENGTH KIND OFFSET | end TOTAL | refused START N
-fn walked(packet: &str) -> String {
-    match word(packet, 0) {
-        "end" => "end".into(),
-        "refused" => format!("refused {}", word(packet, 2)),
-        _ => word(packet, 2).into(),
+/// Of each START LENGTH KIND OFFSET the kind, with the mark where it is of version 2; whether there are both versions; then how the
+/// walk ended: end TOTAL | refused START N.
+fn walked(datagram: &str, answer: &str, is_marked: bool, count: &mut dyn FnMut(&str)) {
+    let mut versions = Vec::new();
+    for said in answer.split("; ") {
+        match word(said, 0) {
+            "end" => count(&with_mark("end", is_marked)),
+            "refused" => count(&with_mark(&format!("refused {}", word(said, 2)), is_marked)),
+            start => {
+                versions.push(version_at(datagram, start.parse().unwrap_or_default()));
+                count(&with_mark(word(said, 2), versions.last() == Some(&Some(VERSION_2))));
+            }
+        }
+    }
+    if [1, VERSION_2].iter().all(|version| versions.contains(&Some(*version))) {
+        count(&with_mark("both versions", true));
     }
 }
 
@@ -84,10 +146,14 @@ fn stepped(question: &str, at: usize, step: &str) -> String {
 mod tests {
     use super::each;
 
-    fn of(question: &str, answer: &str) -> Vec<String> {
+    fn marked(question: &str, answer: &str, mark: &str) -> Vec<String> {
         let mut found = Vec::new();
-        each(question.split(' ').next().unwrap(), question, answer, &mut |class| found.push(class.into()));
+        each(question.split(' ').next().unwrap(), question, answer, mark, &mut |class| found.push(class.into()));
         found
+    }
+
+    fn of(question: &str, answer: &str) -> Vec<String> {
+        marked(question, answer, "")
     }
 
     #[test]
@@ -105,5 +171,20 @@ mod tests {
         assert_eq!(of("split 0 0 1 00", "no 4 7 01 02"), ["no 4"]);
         assert_eq!(of("whole vneg 1 - - 00 00 -", "ok 81"), ["vneg"]);
         assert_eq!(of("sample retry 0 -", "none"), ["none"]);
+    }
+
+    #[test]
+    fn a_packet_of_version_2_is_classed_apart() {
+        let of_2 = |question, answer| marked(question, answer, "version-2");
+        let retry = "split 0 0 1,1798521807 c06b3343cf0000";
+        assert_eq!(of_2(retry, "ok retry 7"), ["retry # version-2", "listed: 1 then 2 # version-2"]);
+        assert_eq!(of("decode 0 0 1798521808 c06b3343cf0000", "no 4 1798521807 - -"), ["no 4", "listed: neither"]);
+        assert_eq!(of("decode 0 0 1 c0000000020000", "no 4 2 - -"), ["no 4"]);
+        assert_eq!(of_2("split 0 0 1798521807,1 d06b3343cf0000", "no 1"), ["no 1 # version-2"]);
+        assert_eq!(of_2("whole retry 1798521807 - - 00 00 -", "ok c0"), ["retry # version-2"]);
+        let both = "walk 0 0 1 f06b3343cf000000e00000000100000040";
+        let said = ["handshake # version-2", "handshake", "short", "end # version-2", "both versions # version-2"];
+        assert_eq!(of_2(both, "0 8 handshake 8; 8 8 handshake 8; 16 1 short 1; end 17"), said);
+        assert_eq!(marked("split 0 0 1 40", "no 14", "size-65527"), ["no 14"]);
     }
 }

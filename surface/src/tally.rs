@@ -84,7 +84,7 @@ impl Tally {
         };
         let (wanted, mark) = both.wanted();
         operation.asked += 1;
-        classes::each(op, question, wanted, &mut |class| count(&mut operation.classes, class));
+        classes::each(op, question, wanted, mark, &mut |class| count(&mut operation.classes, class));
         if !mark.is_empty() {
             count(&mut self.marks, mark);
         }
@@ -105,12 +105,12 @@ impl Tally {
 
     /// Prints all counts; answers whether nothing differs, every class came up and every mark is named.
     pub fn report(&self, named: &BTreeSet<String>) -> bool {
-        println!("{:10} {:20} {:>10} {:>10}", "operation", "answer", "cases", "not asked");
+        println!("{:10} {:30} {:>10} {:>10}", "operation", "answer", "cases", "not asked");
         let mut faults = Vec::new();
         for (op, operation) in &self.operations {
-            println!("{op:10} {:20} {:10} {:10}", "", operation.asked, operation.not_asked);
+            println!("{op:10} {:30} {:10} {:10}", "", operation.asked, operation.not_asked);
             for (class, n) in &operation.classes {
-                println!("{:10} {class:20} {n:10}", "");
+                println!("{:10} {class:30} {n:10}", "");
             }
             let came_up = |class: &&str| operation.classes.contains_key(*class);
             faults.extend(classes::all(op).filter(|c| !came_up(c)).map(|c| format!("never came up: {op}: {c}")));
@@ -119,7 +119,7 @@ impl Tally {
             faults.extend(unknown.map(|c| format!("no class of the list: {op}: {c}")));
         }
         for (mark, n) in &self.marks {
-            println!("{:10} {:20} {n:10}", "mark", mark);
+            println!("{:10} {:30} {n:10}", "mark", mark);
         }
         faults.extend(
             self.marks.keys().filter(|m| !named.contains(*m)).map(|m| format!("not in docs/DIFFERENCES.md: {m}")),

@@ -1,15 +1,22 @@
 """The C surface: every function's record."""
 from answers import size
 from answers.replay_frame import MALFORMED, TYPES, WHOLE, type_name
+from answers.replay_packet import LISTED, TWO, VERSION_2, listed, version_at
 
 KINDS = ['initial', '0rtt', 'handshake', 'retry', 'short', 'vneg']
 NUMBERED = ['initial', '0rtt', 'handshake', 'short']
 LENGTHS = ['1 byte', '2 bytes', '3 bytes', '4 bytes']
 SIZE, PAST, OFFSET, FORM = ' # size-65527', ' # place-past-the-slice', ' # number-offset', ' # form-bit'
 STEPS = ['send', 'acknowledge', 'read', 'accept']
+SPLIT = [kind + where for kind in KINDS for where in ('', ', later')]
+HEADER = [f'{kind}, {length}' for kind in NUMBERED for length in LENGTHS] + ['retry', 'vneg']
+ROOM = ['room left', 'no room left']
+# what the type bits of version 2 decide
+SPLIT_2 = [name + TWO for name in SPLIT[:8] + ['no 1', 'no 5', 'no 7']] + LISTED
+HEADER_2 = [name + TWO for name in HEADER[:12] + ['retry'] + ROOM]
 
 CLASSES = {
-    'gsplit': [kind + where for kind in KINDS for where in ('', ', later')] + ['end', '4 with both connection ids']
+    'gsplit': SPLIT + SPLIT_2 + ['end', '4 with both connection ids']
     + [f'no {n}' for n in (1, 2, 3, 4, 5, 6, 7, 14)] + ['no 14' + mark for mark in (SIZE, ' # cid-over-20', ' # versions-16')],
     'gsample': ['sample', 'none', 'none' + PAST, 'no 8', 'no 8' + OFFSET, 'no 14', 'no 14' + OFFSET, 'no 14' + SIZE],
     'gunmask': [f'{kind}, {length}' for kind in NUMBERED for length in LENGTHS]
@@ -19,7 +26,7 @@ CLASSES = {
     + [f'{type_name(ty)} no 12' for ty in MALFORMED] + ['end', 'later', 'no 11', 'no type, no 10', 'no 13', 'no 14' + SIZE],
     'gnumber': [f'send, {length}' for length in LENGTHS] + ['send no 14', 'send no 16', 'read', 'read no 14', 'no step', 'no flag']
     + [f'{step}{said}' for step in ('acknowledge', 'accept') for said in (', larger', ', no larger', ' no 14')],
-    'gheader': [f'{kind}, {length}' for kind in NUMBERED for length in LENGTHS] + ['retry', 'vneg', 'room left', 'no room left', 'no 14']
+    'gheader': HEADER + ROOM + HEADER_2 + ['no 14']
     + ['no 14 # ' + mark for mark in ('cid-over-20', 'cut-rule', 'u24-fourth-byte', 'length-16384')] + ['no 14' + SIZE, 'no 15 # short-buffer'],
     'gmask': [f'{form}, {length}' for form in ('long', 'short') for length in LENGTHS] + ['no number', 'no 14']
     + ['no 14 # ' + mark for mark in ('short-of-header', 'header-tests')] + ['no 14' + SIZE, 'no 14' + FORM, 'no 8 # short-of-sample'],
@@ -27,9 +34,12 @@ CLASSES = {
 
 
 def gsplit(q, a):
+    if a[0] == '0' and a[1] == '6':
+        return ['end']
+    of_list = [listed(q[4])] if a[0] in ('0', '4') and version_at(q[5], int(q[1])) == VERSION_2 else []
     if a[0] != '0':
-        return [f'no {a[0]}'] + (['4 with both connection ids'] if a[0] == '4' and '-' not in a[-2:] else [])
-    return ['end'] if a[1] == '6' else [KINDS[int(a[1])] + (', later' if a[5] != '0' else '')]
+        return [f'no {a[0]}'] + (['4 with both connection ids'] if a[0] == '4' and '-' not in a[-2:] else []) + of_list
+    return [KINDS[int(a[1])] + (', later' if a[5] != '0' else '')] + of_list
 
 
 def gsample(q, a):

@@ -1,6 +1,7 @@
 """What tools/tshark is made of.
 
-writer has keys and packets, flows connections of random packets, rfc9001 the RFC's packets, said what is said of a packet.
+versions has what the two versions do not share, writer ciphers and packets, flows connections of random packets, appendix the RFCs'
+packets, said what is said of a packet.
 """
 import collections
 import os
@@ -14,8 +15,8 @@ CLIENT, SERVER = 0, 1
 SEALED = ['initial', '0rtt', 'handshake', 'short']
 SPACE = {'initial': 'initial', 'handshake': 'handshake', '0rtt': 'data', 'short': 'data'}
 HEADERS = 28  # the bytes of IPv4 and UDP before a datagram
-# what a packet was asked to be, and its bytes: clear is its payload before it was sealed, mask the one it was protected with
-Asked = collections.namedtuple('Asked', 'kind version dst src token spin phase random number cut clear mask bytes')
+# what a packet was asked to be, the keys that it was sealed with, and its bytes
+Asked = collections.namedtuple('Asked', 'kind version dst src token spin phase random number cut keys bytes')
 # the side that sends, the client's address, the packets; cid_len is the length of the receiver's CIDs
 Datagram = collections.namedtuple('Datagram', 'side client cid_len packets')
 

@@ -1,7 +1,6 @@
 """Connections of random packets."""
 from outside import CLIENT, SERVER, SPACE, Datagram
-from outside.rfc9001 import client_hello, server_hello
-from outside.writer import expanded, initial_secret, keys_of
+from outside.appendix import client_hello, server_hello
 
 LABEL = {
     ('0rtt', 0): 'CLIENT_EARLY_TRAFFIC_SECRET',
@@ -68,11 +67,11 @@ class Flow:
     """The datagrams of a connection."""
 
     def __init__(self, writer, rng, client, ids):
-        self.writer, self.rng, self.client, self.new_id = writer, rng, client, ids
+        self.writer, self.version, self.rng, self.client, self.new_id = writer, writer.version, rng, client, ids
         self.ids, self.first = [ids(0, 20), ids(0, 20)], ids(8, 20)
         self.hello = rng.randbytes(32)
         self.secrets = {key: rng.randbytes(32) for key in LABEL}
-        self.keys = {key: keys_of(secret) for key, secret in self.secrets.items()}
+        self.keys = {key: self.version.keys_of(secret) for key, secret in self.secrets.items()}
         self.key_log = ''.join(f'{LABEL[key]} {self.hello.hex()} {secret.hex()}\n' for key, secret in self.secrets.items())
         self.phase, self.last, self.datagrams = [0, 0], {}, []
 
@@ -85,7 +84,7 @@ class Flow:
         return number, self.writer.cut(number, number - distance if distance <= number else None)
 
     def packet(self, kind, side, dst, token=b'', clear=None):
-        keys = keys_of(initial_secret(self.first, side)) if kind == 'initial' else self.keys[kind, side]
+        keys = self.version.initial_keys(self.first, side) if kind == 'initial' else self.keys[kind, side]
         src, spin, phase = (b'', self.rng.getrandbits(1), self.phase[side]) if kind == 'short' else (self.ids[side], 0, 0)
         return self.writer.sealed(kind, keys, dst, src, token, *self.number(kind, side), clear or payload(self.rng, kind), spin, phase)
 
@@ -102,19 +101,19 @@ class Flow:
 
     def retried(self):
         token, new = self.rng.randbytes(self.rng.randint(1, 300)), self.new_id(1, 20)
-        self.send(SERVER, [self.writer.bare('retry', self.ids[0], new, token, first=self.first)])
+        self.send(SERVER, [self.writer.retry(self.ids[0], new, token, self.first)])
         self.first = new
         self.opened(token)
 
     def negotiated(self):
         versions = self.rng.randbytes(4 * self.rng.randint(1, 20))
-        self.send(SERVER, [self.writer.bare('negotiation', self.ids[0], self.first, versions, rand=self.rng.getrandbits(7))])
+        self.send(SERVER, [self.writer.negotiation(self.ids[0], self.first, versions, self.rng.getrandbits(7))])
 
     def updated(self):
         """A key update of both sides (RFC 9001, 6)."""
         for side in (CLIENT, SERVER):
-            secret = self.secrets['short', side] = expanded(self.secrets['short', side], 'quic ku', 32)
-            self.keys['short', side] = keys_of(secret)[:2] + self.keys['short', side][2:]
+            secret = self.secrets['short', side] = self.version.next_secret(self.secrets['short', side])
+            self.keys['short', side] = self.version.keys_of(secret)[:2] + self.keys['short', side][2:]
             self.phase[side] ^= 1
 
     def answered(self):

@@ -2,8 +2,8 @@
 import collections
 
 from outside import HEADERS, SPACE
+from outside.writer import nonce_of
 
-LONG = {'initial': 0, '0rtt': 1, 'handshake': 2, 'retry': 3}
 NOTE = 0x400000  # tshark's severity of a note; warnings and errors are above
 
 
@@ -18,7 +18,7 @@ def wanted(packet, start):
         said['token'] = packet.token
     if packet.kind == 'negotiation':
         said['random'] = packet.random
-    if packet.mask:
+    if packet.keys:
         said.update(number=packet.number, reserved=0)
         said['number len'] = packet.cut[0]
         if packet.kind == 'short':
@@ -29,8 +29,8 @@ def wanted(packet, start):
 class Reader:
     """What our code says of a datagram."""
 
-    def __init__(self, ours):
-        self.ours, self.accepted = ours, {}
+    def __init__(self, writer):
+        self.writer, self.ours, self.accepted = writer, writer.ours, {}
 
     def read(self, datagram):
         data = b''.join(p.bytes for p in datagram.packets)
@@ -62,14 +62,16 @@ class Reader:
         if kind == 'retry':
             said['retry token'] = (number_at, data[number_at:end - 16])
             said['retry tag'] = (end - 16, data[end - 16:end], True)
-        if asked.mask:
-            self.opened(said, datagram, data[start:end], asked, number_at - start)
+        if asked.keys and kind in SPACE:
+            self.opened(said, datagram, data[start:end], asked.keys, number_at - start)
         return said
 
-    def opened(self, said, datagram, packet, asked, number_offset):
-        """With the protection off."""
-        start, kind = said['packet'][0], said['kind']
-        size, value, clear, phase = map(int, self.ours.ask('unmask', kind, number_offset, asked.mask, packet))
+    def opened(self, said, datagram, packet, keys, number_offset):
+        """With the protection off: the mask of the sample, the number, the payload through the AEAD and its frames."""
+        start, kind, (key, iv, hp) = said['packet'][0], said['kind'], keys
+        mask = self.writer.mask(kind, hp, number_offset, packet)
+        *numbers, header = self.ours.ask('unmask', kind, number_offset, mask, packet)
+        size, value, clear, phase = map(int, numbers)
         space = datagram.client, datagram.side, SPACE[kind]
         number = int(self.ours.ask('expand', self.accepted.get(space, '-'), size, value)[0])
         self.accepted[space] = max(number, self.accepted.get(space, 0))
@@ -77,15 +79,19 @@ class Reader:
         said['payload'] = (start + number_offset + size, len(packet) - number_offset - size)
         if kind == 'short':
             said['phase'] = phase
-        words = self.ours.ask('frames', asked.clear)
-        said['frames'] = []
+        payload = self.writer.aes.open(key, nonce_of(iv, number), bytes.fromhex(header), packet[number_offset + size:])
+        said['frames'] = 'the AEAD does not open' if payload is None else self.frames(payload)
+
+    def frames(self, payload):
+        """Types and places; a run of PADDING as one."""
+        words, frames = self.ours.ask('frames', payload), []
         for frame_type, place in zip(words[::2], words[1::2]):
             at, length = map(int, place.split('+'))
-            last = said['frames'][-1] if said['frames'] else None
-            if last and int(frame_type) == last[0] == 0:
-                said['frames'][-1] = (0, last[1], last[2] + length)
+            if frames and int(frame_type) == frames[-1][0] == 0:
+                frames[-1] = (0, frames[-1][1], frames[-1][2] + length)
             else:
-                said['frames'].append((int(frame_type), at, length))
+                frames.append((int(frame_type), at, length))
+        return frames
 
 
 def put(said, name, data, place):
@@ -96,8 +102,8 @@ def put(said, name, data, place):
 class Seen:
     """What tshark says of a packet: its fields by name, each with its place in the datagram."""
 
-    def __init__(self, proto):
-        self.proto = proto
+    def __init__(self, proto, version):
+        self.proto, self.version = proto, version
         self.fields = collections.defaultdict(list)
         for field in proto.iter('field'):
             self.fields[field.get('name')].append(field)
@@ -127,7 +133,8 @@ class Seen:
             return 'short'
         if self.number('version') == 0:
             return 'negotiation'
-        return next((kind for kind, n in LONG.items() if n == self.number('long.packet_type')), None)
+        bits = self.number(self.version.field)
+        return None if bits is None else self.version.kinds[bits]
 
     def says(self, is_open):
         said = {'kind': self.kind(), 'packet': (self.start, self.number('packet_length'))}

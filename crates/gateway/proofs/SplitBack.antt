@@ -17,7 +17,7 @@ use Rattle.shared.specs.declared.cid.ConnectionId.{ConnectionId}
 use Rattle.frame.specs.Table.{flag}
 use Rattle.packet.specs.TypeBits.{typeOf}
 use Rattle.packet.specs.Header.{Header, initial, zeroRtt, handshake, retry, short, negotiate, Outcome, refusedHeader, headerAt, lengthIn}
-use Rattle.packet.specs.Split.{Split, cutAt, noPacket, splitBy, splitOn, splitAt}
+use Rattle.packet.specs.Split.{Split, cutAt, noPacket, splitBy, splitOn, splitWith, splitAt}
 use Rattle.packet.specs.Walk.{atEnd, packet, PacketStep, metOn, stepOn, stopAt, packetStepAt}
 use Rattle.packet.proofs.Splits.{split-taken}
 use Rattle.gateway_frame.specs.Spans.{spanAt}
@@ -78,7 +78,7 @@ flag-small false = refl
 -- a split's header is the one that was read, or refusal 7
 split-header : (P : Outcome → Type 0) (s : List ℕ) (local : ℕ) (versions : List ℕ) (grease : Bool) → P (headerAt s local versions grease) → P (refusedHeader 7)
     → P (splitAt s local versions grease .header)
-unfolding splitAt splitOn splitBy cutAt noPacket
+unfolding splitWith splitOn splitBy cutAt noPacket
 split-header P s local versions grease p q = on (headerAt s local versions grease .said)
   where
     o : Outcome

@@ -92,13 +92,13 @@ module _ (s : List ℕ) where
     tail-stands type.handshake = length-stands handshake (λ len end h. long _ end refl refl h)
     tail-stands type.retry = long _ at refl refl (omega arith)
 
-    body-stands : (types : ℕ → PacketType) (steer rest : ℕ) (versions : List ℕ) → Stands (bodyAt types steer rest s versions v dst src at)
+    body-stands : (types : ℕ → ℕ → PacketType) (steer rest : ℕ) (versions : List ℕ) → Stands (bodyAt types steer rest s versions v dst src at)
     unfolding bodyAt headed
     body-stands types steer rest versions =
         if-all Stands _ _ _ (λ b. long _ at refl refl (omega arith)) (λ b.
         if-all Stands _ _ _ (λ c. tail-stands _) (λ c. (λ z. omega (arith, z), (λ e. (at, long _ at refl refl (omega arith)), λ e. absurd (e refl)))))
 
-  module _ (types : ℕ → PacketType) where
+  module _ (types : ℕ → ℕ → PacketType) where
     long-stands : (steer rest : ℕ) (versions : List ℕ) → Stands (longAt types steer rest s versions)
     unfolding longAt
     long-stands steer rest versions =

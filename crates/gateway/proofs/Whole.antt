@@ -22,15 +22,15 @@ use Rattle.packet_out.specs.Before.{roomy, numberSize, lengthFits, fits, header
 -- what fits
 pub record Fit (p : Plain) (dst src : ConnectionId) (token : List ℕ) (n : ℕ) : Type 0 where
   pub rules : keepRules (plainNumber p) dst src ≡ true
-  pub all : length (headerBytes p dst src token) + n ≤ 65527
+  pub all : length (headerBytes bitsOf p dst src token) + n ≤ 65527
   pub len : lengthFits (shapeBy bitsOf p .hasLength) (numberSize p + n) ≡ true
 
 module _ (p : Plain) (dst src : ConnectionId) (token : List ℕ) (n : ℕ) where
   pub fit : fits p dst src token n ≡ true → Fit p dst src token n
   unfolding fits roomy
-  fit = go (keepRules (plainNumber p) dst src) (leb (length (headerBytes p dst src token) + n) 65527) (lengthFits (shapeBy bitsOf p .hasLength) (numberSize p + n)) refl refl refl
+  fit = go (keepRules (plainNumber p) dst src) (leb (length (headerBytes bitsOf p dst src token) + n) 65527) (lengthFits (shapeBy bitsOf p .hasLength) (numberSize p + n)) refl refl refl
     where
-      go : (a b d : Bool) → keepRules (plainNumber p) dst src ≡ a → leb (length (headerBytes p dst src token) + n) 65527 ≡ b
+      go : (a b d : Bool) → keepRules (plainNumber p) dst src ≡ a → leb (length (headerBytes bitsOf p dst src token) + n) 65527 ≡ b
           → lengthFits (shapeBy bitsOf p .hasLength) (numberSize p + n) ≡ d → ((a && b) && d) ≡ true → Fit p dst src token n
       go true true true x y z h = record { rules = x; all = leb-true _ _ y; len = z }
       go true true false x y z h = let q : _≡_ {A = ℕ} 0 1 = cc in absurd (omega arith)
@@ -58,9 +58,9 @@ module _ (p : Plain) (dst src : ConnectionId) (token payload : List ℕ) (c : Cu
   unfolding headerWith whole if_then_else_
   written = rw t
 
-  pub encoded-then-set : lengthSet (length (headerBytes p dst src token)) (some (c .0)) (shapeBy bitsOf p .hasLength) (headerBytes p dst src token ++ payload)
+  pub encoded-then-set : lengthSet (length (headerBytes bitsOf p dst src token)) (some (c .0)) (shapeBy bitsOf p .hasLength) (headerBytes bitsOf p dst src token ++ payload)
       ≡ ok (whole ++ payload)
   unfolding whole
   encoded-then-set =
-      sets p dst src token c is (shapeBy bitsOf p .hasLength) payload refl cuts (fit p dst src token (length payload) t .all) few
+      sets bitsOf p dst src token c is (shapeBy bitsOf p .hasLength) payload refl cuts (fit p dst src token (length payload) t .all) few
       ∙ ap (λ (k : ℕ). ok (writtenHeader bitsOf (lengthField (k + length payload)) p dst src token ++ payload)) (sym size)

@@ -23,7 +23,7 @@ use Rattle.packet.specs.Header.{Outcome, outside, headed, headerAt}
 use Rattle.packet.specs.Split.{cutAt}
 use Rattle.packet.specs.Walk.{packet, PacketStep, metOn, stepOn, packetStepAt}
 use Rattle.packet.specs.TypeBits.{typeOf, bitsOf}
-use Rattle.packet.proofs.Types.{table}
+use Rattle.packet.proofs.Types.{tables}
 use Rattle.packet_out.specs.Encoding.{Plain, initial, plainNumber, numberLenIn, shapeBy, lengthBytes, numberField, writtenHeader, placeholder, partialOf}
 use Rattle.packet_out.specs.Length.{lengthField}
 use Rattle.packet_out.specs.Back.{kindRead, versionRead, srcRead, tokenPlace, endRead, readAs, Readable, Typed}
@@ -64,9 +64,9 @@ module _ (p : Plain) (dst src : ConnectionId) (token payload : List ℕ) (local 
   header = writtenHeader bitsOf (lengthField counted) p dst src token
 
   pub read : Outcome
-  read = readAs p dst src token counted 2
+  read = readAs bitsOf p dst src token counted 2
 
-  header-long : length header ≡ endRead p dst src token 2 + numberSize p
+  header-long : length header ≡ endRead bitsOf p dst src token 2 + numberSize p
   unfolding endRead writtenHeader
   header-long =
       omega (arith, length-shape (lengthField counted) (shapeBy bitsOf p) (plainNumber p) dst src token, length-some (plainNumber p), length-set (shapeBy bitsOf p .hasLength) counted)
@@ -75,7 +75,7 @@ module _ (p : Plain) (dst src : ConnectionId) (token payload : List ℕ) (local 
   all = length-append header payload
 
   small : length (header ++ payload) ≤ 65527
-  small = omega (arith, all, f .all, length-header p dst src token (lengthField counted) placeholder (length-field counted ∙ sym (length-bytesBE 2 0)))
+  small = omega (arith, all, f .all, length-header bitsOf p dst src token (lengthField counted) placeholder (length-field counted ∙ sym (length-bytesBE 2 0)))
 
   inside : outside (header ++ payload) local versions ≡ false
   unfolding outside
@@ -87,17 +87,17 @@ module _ (p : Plain) (dst src : ConnectionId) (token payload : List ℕ) (local 
       let k = kept (plainNumber p) dst src (f .rules) in
       let e = header-then bitsOf (lengthField counted) p dst src token payload in
       rw e
-      (header-back typeOf bitsOf (table .back) (table .two) dst src token (lengthField counted) counted 2 (numberField (plainNumber p) ++ payload) local versions grease p
+      (header-back typeOf bitsOf tables dst src token (lengthField counted) counted 2 (numberField (plainNumber p) ++ payload) local versions grease p
       (shapeBy bitsOf p .first) (first-steers bitsOf p (k .cut)) (λ h. reads-length counted (length-small (shapeBy bitsOf p .hasLength) counted h (f .len))) (λ h. omega (arith, few)) k y d (rw e at inside))
 
-  one : 1 ≤ endRead p dst src token 2
+  one : 1 ≤ endRead bitsOf p dst src token 2
   unfolding endRead
   one = omega arith
 
   steps : packetStepAt (header ++ payload) 0 local versions grease ≡ record { met = packet 0 (length (header ++ payload)); header = read }
   unfolding packetStepAt stepOn cutAt metOn if_then_else_ read readAs headed
   steps =
-      let s = split-whole p dst src token (header ++ payload) counted 2 local versions grease header-read (λ h. omega (arith, all, header-long)) in
+      let s = split-whole typeOf bitsOf p dst src token (header ++ payload) counted 2 local versions grease header-read (λ h. omega (arith, all, header-long)) in
       rw (inside, ne-eqb (length (header ++ payload)) 0 (λ e. omega (arith, e, all, header-long, one)), lt-leb (length (header ++ payload)) 0 (omega (arith, all, header-long, one)), s)
 
   -- the record of split
@@ -121,8 +121,8 @@ module _ (p : Plain) (dst src : ConnectionId) (token payload : List ℕ) (local 
   from-back =
       sym (cid-same (named (header ++ payload) (answer .«src_cid»))) ∙ ap (λ (x : PacketStep). cidBytes (x .header .src)) back ∙ cid-same (srcRead p src)
 
-  pub token-there : shapeBy bitsOf p .hasToken ≡ true → partOf (header ++ payload) (tokenPlace p dst src token) ≡ token
-  token-there h = rw (header-then bitsOf (lengthField counted) p dst src token payload) (token-back p dst src (shapeBy bitsOf p .first) token (lengthField counted) (numberField (plainNumber p) ++ payload) h)
+  pub token-there : shapeBy bitsOf p .hasToken ≡ true → partOf (header ++ payload) (tokenPlace bitsOf p dst src token) ≡ token
+  token-there h = rw (header-then bitsOf (lengthField counted) p dst src token payload) (token-back bitsOf p dst src (shapeBy bitsOf p .first) token (lengthField counted) (numberField (plainNumber p) ++ payload) h)
 
   pub number-there : answer .«number_offset» + numberSize p ≡ length header
   unfolding read readAs headed

@@ -5,6 +5,8 @@ use Rattle.coding.proofs.Onces.{seen, one-part}
 use Rattle.packet.proofs.Inverse.{kind-one, decoded-one, len-one, space-one, split-one, step-one}
 use Rattle.packet.proofs.header.LongHeaderType.from_byte as from-byte
 use Rattle.packet.proofs.header.LongHeaderType.from_byte.Reads as from-byte-reads
+use Rattle.packet.proofs.header.LongHeaderType.bits as bits
+use Rattle.packet.proofs.header.LongHeaderType.bits.Reads as bits-reads
 use Rattle.packet.proofs.header.Decoded.dst_cid as dst-cid
 use Rattle.packet.proofs.header.Decoded.dst_cid.Reads as dst-cid-reads
 use Rattle.packet.proofs.header.Decoded.payload_len as payload-len
@@ -35,6 +37,10 @@ use Rattle.packet.proofs.walk.step.Reads as step-reads
 from-byte-once : Once from-byte.ended from-byte-reads.Post (λ κs x s. x)
 unfolding Once
 from-byte-once κs a x y s t p q = kind-one x y _ p q
+
+bits-once : Once bits.ended bits-reads.Post (λ κs x s. x)
+unfolding Once
+bits-once κs a x y s t p q = p .0 ∙ sym (q .0)
 
 dst-cid-once : Once dst-cid.ended dst-cid-reads.Post (λ κs x s. x)
 unfolding Once

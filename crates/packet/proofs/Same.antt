@@ -112,7 +112,7 @@ module _ (s t : List ℕ) (end : ℕ) (long : length s ≡ length t) (same : (i 
     tail-same type.handshake = length-same handshake
     tail-same type.retry = λ p q. refl
 
-  module _ (types : ℕ → PacketType) (h : Header) where
+  module _ (types : ℕ → ℕ → PacketType) (h : Header) where
     module _ (steer rest low : ℕ) (versions : List ℕ) (free : (x : ℕ) → h ≡ negotiate x → rest ≡ low) where
       body-same : (v : ℕ) (dst src : ConnectionId) (at : ℕ) → 0 < at
           → Goes h end (bodyAt types steer low t versions v dst src at) (bodyAt types steer rest s versions v dst src at)
@@ -122,7 +122,7 @@ module _ (s t : List ℕ) (end : ℕ) (long : length s ≡ length t) (same : (i 
           (λ p q.
           let e : h ≡ negotiate (steer % 8 * 16 + rest) = cc in
           ap (λ (z : ℕ). headed dst src v (negotiate (steer % 8 * 16 + z)) at) (sym (free _ e)))
-          (if-same h end (listed versions v) _ _ _ _ (tail-same h dst src v at pos (types (steer % 4))) (λ p q. refl))
+          (if-same h end (listed versions v) _ _ _ _ (tail-same h dst src v at pos (types v (steer % 4))) (λ p q. refl))
 
       long-same : Goes h end (longAt types steer low t versions) (longAt types steer rest s versions)
       unfolding longAt andThen
@@ -201,7 +201,7 @@ module _ (s t : List ℕ) (end : ℕ) (long : length s ≡ length t) (same : (i 
             first-same))
 
 -- nothing past the header is read, and of byte 0 only the bits that steer
-pub header-same : (types : ℕ → PacketType) (s t : List ℕ) (local : ℕ) (versions : List ℕ) (grease : Bool) (h : Header)
+pub header-same : (types : ℕ → ℕ → PacketType) (s t : List ℕ) (local : ℕ) (versions : List ℕ) (grease : Bool) (h : Header)
     → headerBy types s local versions grease .said ≡ ok h
     → length s ≡ length t
     → Steers h (byteAt s 0) (byteAt t 0)

@@ -17,7 +17,7 @@ use Rattle.coding.proofs.Laws.{take-inside}
 use Rattle.coding.proofs.Rules.{then-all}
 use Rattle.packet.specs.TypeBits.{typeOf}
 use Rattle.packet.specs.Header.{Header, Outcome, refusedHeader, headerAt, lengthIn}
-use Rattle.packet.specs.Split.{Split, nowhere, restAt, cutAt, noPacket, splitBy, splitOn, splitAt, tokenIn, restIn}
+use Rattle.packet.specs.Split.{Split, nowhere, restAt, cutAt, noPacket, splitBy, splitOn, splitWith, splitAt, tokenIn, restIn}
 use Rattle.packet.specs.Inside.{HeaderInside, SplitInside, SplitsInside}
 use Rattle.packet.proofs.Within.{least, Within, header-within}
 
@@ -75,7 +75,7 @@ module _ (s : List ℕ) (o : Outcome) where
 
 module _ (s : List ℕ) (local : ℕ) (versions : List ℕ) (grease : Bool) where
   right : Right s (headerAt s local versions grease) (splitAt s local versions grease)
-  unfolding splitAt
+  unfolding splitWith
   right = on-right s (headerAt s local versions grease) _ refl (header-within s typeOf local versions grease)
 
   pub split-taken : (h : Header) → splitAt s local versions grease .header .said ≡ ok h → Taken s h (splitAt s local versions grease)

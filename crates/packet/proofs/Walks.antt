@@ -12,7 +12,7 @@ use borrow.Author.Tests.{ltb-true, ltb-false, lt-leb, le-leb, eq-eqb, ne-eqb}
 use Rattle.coding.specs.Words.{if_then_else_, andThen, Answer, no, ok}
 use Rattle.coding.proofs.Laws.{fixed-none}
 use Rattle.packet.specs.Header.{Header, initial, zeroRtt, handshake, retry, short, negotiate, refusedHeader, outside, headerBy, headerAt}
-use Rattle.packet.specs.Split.{Split, noPacket, splitOn, splitAt}
+use Rattle.packet.specs.Split.{Split, noPacket, splitOn, splitWith, splitAt}
 use Rattle.packet.specs.Walk.{Met, atEnd, packet, refusedAt, PacketStep, metOn, stepOn, stopAt, packetsFrom, walkAt, packetStepAt}
 use Rattle.packet.specs.Inside.{PacketInside, InLine, whole, tailRefused, follows, StepsInside, WalksInside}
 use Rattle.packet.proofs.Within.{least}
@@ -228,7 +228,7 @@ module _ (s : List ℕ) (local : ℕ) (versions : List ℕ) (grease : Bool) wher
 
   -- a datagram that is refused as a whole
   pub walk-refused : (k : ℕ) → headerAt s local versions grease ≡ refusedHeader k → packetsFrom (length s) 0 s local versions grease ≡ stopAt 0 k ∷ []
-  unfolding splitAt splitOn refusedHeader noPacket stepOn metOn stopAt
+  unfolding splitWith splitOn refusedHeader noPacket stepOn metOn stopAt
   walk-refused k e =
       let f : splitAt s local versions grease ≡ noPacket (refusedHeader k) = rw e in
       walk-no local versions grease (length s) 0 s k (rw f) ∙ rw f

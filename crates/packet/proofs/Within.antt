@@ -79,7 +79,7 @@ module _ (s : List ℕ) where
     tail-within type.handshake h = length-within handshake (λ len. (omega arith, refl))
     tail-within type.retry h = headed-within at dst src v retry at (bare at retry at refl (omega arith) (omega arith) h)
 
-  module _ (types : ℕ → PacketType) where
+  module _ (types : ℕ → ℕ → PacketType) where
     pub body-within : (steer rest : ℕ) (versions : List ℕ) (v : ℕ) (dst src : ConnectionId) (at : ℕ) → 7 ≤ at → at ≤ length s
         → Within s at (bodyAt types steer rest s versions v dst src at)
     unfolding bodyAt tokenIn

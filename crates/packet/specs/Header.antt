@@ -77,14 +77,14 @@ tailAt type.handshake made s at = lengthAt handshake made s at
 tailAt type.retry made s at = made retry at
 
 -- version 0 comes before the list; a version that is not listed is refused with the connection ids and the version
-unfoldable pub bodyAt : (ℕ → PacketType) → ℕ → ℕ → List ℕ → List ℕ → ℕ → ConnectionId → ConnectionId → ℕ → Outcome
+unfoldable pub bodyAt : (ℕ → ℕ → PacketType) → ℕ → ℕ → List ℕ → List ℕ → ℕ → ConnectionId → ConnectionId → ℕ → Outcome
 bodyAt types steer rest s versions version dst src at =
     if eqb version 0 then headed dst src version (negotiate (steer % 8 * 16 + rest)) at else
-    if listed versions version then tailAt (types (steer % 4)) (headed dst src version) s at else
+    if listed versions version then tailAt (types version (steer % 4)) (headed dst src version) s at else
     record { said = no 4; dst = dst; src = src; version = version; end = 0 }
 
 -- the version, and the two connection ids
-unfoldable pub longAt : (ℕ → PacketType) → ℕ → ℕ → List ℕ → List ℕ → Outcome
+unfoldable pub longAt : (ℕ → ℕ → PacketType) → ℕ → ℕ → List ℕ → List ℕ → Outcome
 longAt types steer rest s versions =
     andThen (fixedAt 4 s 1) (refusedHeader 1) (λ version n.
     andThen (longCidAt s n) (refusedHeader 3) (λ to m.
@@ -102,13 +102,13 @@ shortAt steer s local =
 
 -- byte 0 is taken apart: the bits that steer are the form bit, the fixed bit and, in a long header, the type (first / 16),
 -- in a short one the spin bit (first / spinBit); the rest of it goes to Version Negotiation alone
-unfoldable pub firstAt : (ℕ → PacketType) → ℕ → List ℕ → ℕ → List ℕ → Bool → Outcome
+unfoldable pub firstAt : (ℕ → ℕ → PacketType) → ℕ → List ℕ → ℕ → List ℕ → Bool → Outcome
 firstAt types first s local versions grease =
     if unfixed first grease then refusedHeader 2 else
     if ltb first longHeaderForm then shortAt (first / spinBit) s local else longAt types (first / 16) (first % 16) s versions
 
 -- the arguments come first, then byte 0
-unfoldable pub headerBy : (ℕ → PacketType) → List ℕ → ℕ → List ℕ → Bool → Outcome
+unfoldable pub headerBy : (ℕ → ℕ → PacketType) → List ℕ → ℕ → List ℕ → Bool → Outcome
 headerBy types s local versions grease =
     if outside s local versions then refusedHeader 14 else
     andThen (fixedAt 1 s 0) (refusedHeader 1) (λ first n. firstAt types first s local versions grease)

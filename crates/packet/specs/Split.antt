@@ -8,7 +8,8 @@ use lib.Dec.{ltb}
 use Rattle.coding.specs.Words.{if_then_else_, andThen, Answer, no, ok}
 use Rattle.coding.specs.Reading.{takeAt}
 use Rattle.coding.specs.declared.Place.{Place}
-use Rattle.packet.specs.Header.{Header, initial, zeroRtt, handshake, retry, short, negotiate, Outcome, refusedHeader, headerAt, lengthIn}
+use Rattle.packet.specs.TypeBits.{PacketType, typeOf}
+use Rattle.packet.specs.Header.{Header, initial, zeroRtt, handshake, retry, short, negotiate, Outcome, refusedHeader, headerBy, lengthIn}
 
 -- the header of the first packet, the packet, and the rest
 pub record Split : Type 0 where
@@ -40,8 +41,11 @@ unfoldable pub splitOn : Answer Header → List ℕ → Outcome → Split
 splitOn (no k) s h = noPacket h
 splitOn (ok x) s h = splitBy (lengthIn (ok x)) s h
 
-unfoldable pub splitAt : List ℕ → ℕ → List ℕ → Bool → Split
-splitAt s local versions grease = splitOn (headerAt s local versions grease .said) s (headerAt s local versions grease)
+unfoldable pub splitWith : (ℕ → ℕ → PacketType) → List ℕ → ℕ → List ℕ → Bool → Split
+splitWith types s local versions grease = splitOn (headerBy types s local versions grease .said) s (headerBy types s local versions grease)
+
+abbrev pub splitAt : List ℕ → ℕ → List ℕ → Bool → Split
+splitAt = splitWith typeOf
 
 -- the token's place; the empty one where there is no token
 unfoldable pub tokenIn : Answer Header → Place

@@ -3,10 +3,13 @@ use coding::Place;
 use coding::Refusal;
 use shared::ConnectionId;
 ghost use mathlib.Core.Path.{_≡_};
-ghost use Prim.Native.Nat.{_/_, _%_};
-ghost use Rattle.packet.specs.TypeBits.{typeOf};
+ghost use Prim.Native.Nat.{_/_, _%_, _≤_};
+ghost use Rattle.packet.specs.TypeBits.{typeOf, bitsOf};
 ghost use Rattle.packet.specs.Header.{lengthIn, spaceIn, isKind, isLong};
 ghost use Rattle.packet.specs.Said.{longTypeOf, headerOf, lenOf, spaceOf};
+
+// The version of RFC 9369, whose long headers have other type bits.
+const VERSION_2: u32 = 0x6b3343cf;
 
 // Long packet types with uniform header structure.
 pub enum LongType {
@@ -61,16 +64,48 @@ pub enum PayloadLen {
 }
 
 impl LongHeaderType {
-    // By the two type bits of a long header's first byte.
-    pub fn from_byte(b: u8) -> LongHeaderType
-        ensures { λ r. ⌜ longTypeOf r ≡ typeOf (b / 16 % 4) ⌝ }
+    // By the version, and the two type bits of a long header's first byte.
+    pub fn from_byte(b: u8, version: u32) -> LongHeaderType
+        ensures { λ r. ⌜ longTypeOf r ≡ typeOf version (b / 16 % 4) ⌝ }
     {
         let bits = b / 16 % 4;
+        if version == VERSION_2 {
+            return match bits {
+                0 => LongHeaderType::Retry,
+                1 => LongHeaderType::Initial,
+                2 => LongHeaderType::Standard(LongType::ZeroRtt),
+                _ => LongHeaderType::Standard(LongType::Handshake),
+            };
+        }
         match bits {
             0 => LongHeaderType::Initial,
             1 => LongHeaderType::Standard(LongType::ZeroRtt),
             2 => LongHeaderType::Standard(LongType::Handshake),
             _ => LongHeaderType::Retry,
+        }
+    }
+
+    // And back: the two type bits, by the version.
+    pub fn bits(self, version: u32) -> u8
+        ensures { λ r. ⌜ (r ≡ bitsOf version (longTypeOf self)) × (r ≤ 3) ⌝ }
+    {
+        if version == VERSION_2 {
+            return match self {
+                LongHeaderType::Retry => 0,
+                LongHeaderType::Initial => 1,
+                LongHeaderType::Standard(ty) => match ty {
+                    LongType::ZeroRtt => 2,
+                    LongType::Handshake => 3,
+                },
+            };
+        }
+        match self {
+            LongHeaderType::Initial => 0,
+            LongHeaderType::Standard(ty) => match ty {
+                LongType::ZeroRtt => 1,
+                LongType::Handshake => 2,
+            },
+            LongHeaderType::Retry => 3,
         }
     }
 }

@@ -170,7 +170,8 @@ fn long_body(
         };
     }
     if is_listed(versions, version) {
-        return long_tail(s, LongHeaderType::from_byte(first), at, dst, src, version);
+        let ty = LongHeaderType::from_byte(first, version);
+        return long_tail(s, ty, at, dst, src, version);
     }
     Decoded {
         header: ProtectedHeader::Refused(Refusal::Version),

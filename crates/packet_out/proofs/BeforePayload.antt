@@ -41,7 +41,7 @@ module _ (p : Plain) (dst src : ConnectionId) (token : List ℕ) (n : ℕ) where
       → writtenHeader bitsOf (bytesBE 2 (fieldFor b m)) p dst src token ≡ writtenHeader bitsOf (lengthField m) p dst src token
   unfolding fieldFor lengthField if_then_else_
   same-header true m e = refl
-  same-header false m e = without p dst src token (bytesBE 2 0) (bytesBE 2 (2 ^ 14 + m)) e
+  same-header false m e = without bitsOf p dst src token (bytesBE 2 0) (bytesBE 2 (2 ^ 14 + m)) e
 
   pub with-field : lengthFits (shapeBy bitsOf p .hasLength) (numberSize p + n) ≡ true
       → headerBefore (bytesBE 2 (fieldFor (shapeBy bitsOf p .hasLength) (numberSize p + n))) p dst src token n ≡ headerWith p dst src token n
@@ -61,11 +61,11 @@ module _ (c : ConnectionId) (h : c .len ≤ length (c .bytes)) where
   long-same = lent-long (cidBytes c) ∙ ap (λ (l : ℕ). l ∷ cidBytes c) (length-cid c h)
 
 module _ (p : Plain) (dst src : ConnectionId) (token : List ℕ) where
-  pub out-wide : 20 < dst .len → headerOut p dst src token ≡ no 14
+  pub out-wide : 20 < dst .len → headerOut bitsOf p dst src token ≡ no 14
   unfolding headerOut keepRules if_then_else_
   out-wide h = rw (lt-leb _ _ h)
 
-  pub out-wide-src : dst .len ≤ 20 → 20 < src .len → headerOut p dst src token ≡ no 14
+  pub out-wide-src : dst .len ≤ 20 → 20 < src .len → headerOut bitsOf p dst src token ≡ no 14
   unfolding headerOut keepRules if_then_else_
   out-wide-src h k = rw (le-leb _ _ h, lt-leb _ _ k)
 
@@ -75,7 +75,7 @@ module _ (p : Plain) (dst src : ConnectionId) (token : List ℕ) where
     names-same none = cid-same (cidBytes dst)
     names-same (some v) = rw (long-same dst to, long-same src from)
 
-    header-same : headerBytes p (cidOf (cidBytes dst)) (cidOf (cidBytes src)) token ≡ headerBytes p dst src token
+    header-same : headerBytes bitsOf p (cidOf (cidBytes dst)) (cidOf (cidBytes src)) token ≡ headerBytes bitsOf p dst src token
     unfolding writtenHeader shapeBytes
     header-same = rw (names-same (shapeBy bitsOf p .version))
 
@@ -83,6 +83,6 @@ module _ (p : Plain) (dst src : ConnectionId) (token : List ℕ) where
     unfolding keepRules cidOf
     rules-same number = rw (length-cid dst to, length-cid src from)
 
-    pub out-lent : headerBefore placeholder p (cidOf (cidBytes dst)) (cidOf (cidBytes src)) token 0 ≡ headerOut p dst src token
+    pub out-lent : headerBefore placeholder p (cidOf (cidBytes dst)) (cidOf (cidBytes src)) token 0 ≡ headerOut bitsOf p dst src token
     unfolding headerBefore roomy headerOut inHeader
-    out-lent = rw (header-same, rules-same (plainNumber p), add-zero) (both (keepRules (plainNumber p) dst src) (leb (length (headerBytes p dst src token)) 65527) _ _)
+    out-lent = rw (header-same, rules-same (plainNumber p), add-zero) (both (keepRules (plainNumber p) dst src) (leb (length (headerBytes bitsOf p dst src token)) 65527) _ _)

@@ -1,4 +1,5 @@
--- What encode writes is read back: before the Length step, with its two bytes of 0 read as a Length of 0 in one byte, and after it.
+-- What encode writes is read back: before the Length step, with its two bytes of 0 read as a Length of 0 in one byte, and after it;
+-- over any pair of tables of types and their inverses, by the version.
 use Prim.Native.Nat.{ℕ, _+_, _*_, _/_, _%_, _^_, _≤_, _<_}
 use mathlib.Core.Path.{_≡_, refl, sym, ap, _∙_}
 use mathlib.Core.List.{List, _∷_, _++_, append-assoc}
@@ -18,10 +19,10 @@ use Rattle.shared.specs.FirstByte.{fixedBit, spinBit, keyPhaseBit}
 use Rattle.shared.specs.declared.cid.ConnectionId.{ConnectionId}
 use Rattle.shared.specs.declared.kinds.CutNumber.{CutNumber}
 use Rattle.number.specs.Cutting.{lengthBits}
-use Rattle.packet.specs.Header.{outside, headerAt}
+use Rattle.packet.specs.Header.{outside, headerBy}
 use Rattle.packet.specs.TypeBits.{PacketType, typeOf, bitsOf}
 use Rattle.packet.specs.TypeBits as type
-use Rattle.packet.proofs.Types.{table}
+use Rattle.packet.proofs.Types.{Tables, tables}
 use Rattle.packet_out.specs.Encoding.{Plain, initial, zeroRtt, handshake, retry, short, negotiate, plainNumber, bitIf, longFirst, shortFirst, shapeBy, shapeBytes, namesBytes, tokenBytes, lengthBytes, numberField, writtenHeader, headerBytes, headerOut, inHeader, keepRules, numberKeeps, placeholder}
 use Rattle.packet_out.specs.Length.{lengthField}
 use Rattle.packet_out.specs.Back.{readAs, tokenPlace, Readable, Typed}
@@ -63,72 +64,80 @@ short-steers false true low h = omega (arith, h)
 short-steers false false low h = omega (arith, h)
 
 -- over any bits of types
-module _ (bits : PacketType → ℕ) where
-  long-steers : (t : PacketType) (low : ℕ) → low < 16 → (longFirst (bits t) + low) / 16 ≡ 12 + bits t
+module _ (bits : ℕ → PacketType → ℕ) where
+  long-steers : (v : ℕ) (t : PacketType) (low : ℕ) → low < 16 → (longFirst (bits v t) + low) / 16 ≡ 12 + bits v t
   unfolding longFirst
-  long-steers t low h = omega (arith, h)
+  long-steers v t low h = omega (arith, h)
 
   pub first-steers : (p : Plain) → numberKeeps (plainNumber p) ≡ true → Steers bits p (shapeBy bits p .first)
   unfolding Steers shapeBy plainNumber shortFirst
-  first-steers (initial c v) k = long-steers type.initial (lengthBits c) (omega (arith, low-small c k))
-  first-steers (zeroRtt c v) k = long-steers type.zeroRtt (lengthBits c) (omega (arith, low-small c k))
-  first-steers (handshake c v) k = long-steers type.handshake (lengthBits c) (omega (arith, low-small c k))
-  first-steers (retry v) k = let e : longFirst (bits type.retry) ≡ longFirst (bits type.retry) + 0 = omega arith in rw e (long-steers type.retry 0 (omega arith))
+  first-steers (initial c v) k = long-steers v type.initial (lengthBits c) (omega (arith, low-small c k))
+  first-steers (zeroRtt c v) k = long-steers v type.zeroRtt (lengthBits c) (omega (arith, low-small c k))
+  first-steers (handshake c v) k = long-steers v type.handshake (lengthBits c) (omega (arith, low-small c k))
+  first-steers (retry v) k = let e : longFirst (bits v type.retry) ≡ longFirst (bits v type.retry) + 0 = omega arith in rw e (long-steers v type.retry 0 (omega arith))
   first-steers (short spin phase c) k = short-steers spin phase (lengthBits c) (low-small c k)
   first-steers (negotiate random) k = refl
 
 -- ---- what encode writes
 
 -- a header, and what follows it
-pub header-then : (bits : PacketType → ℕ) (field : List ℕ) (p : Plain) (dst src : ConnectionId) (token rest : List ℕ)
+pub header-then : (bits : ℕ → PacketType → ℕ) (field : List ℕ) (p : Plain) (dst src : ConnectionId) (token rest : List ℕ)
     → writtenHeader bits field p dst src token ++ rest ≡ shapeBy bits p .first ∷ upTo bits p dst src token field (numberField (plainNumber p) ++ rest)
 unfolding writtenHeader shapeBytes upTo
 header-then bits field p dst src token rest = ap (λ (l : List ℕ). shapeBy bits p .first ∷ l) (simp append-assoc)
 
 -- what is known of a header that was written
-pub record WasWritten (p : Plain) (dst src : ConnectionId) (token bs : List ℕ) : Type 0 where
+pub record WasWritten (bits : ℕ → PacketType → ℕ) (p : Plain) (dst src : ConnectionId) (token bs : List ℕ) : Type 0 where
   pub kept : Kept (plainNumber p) dst src
   pub short : length bs ≤ 65527
-  pub is : bs ≡ headerBytes p dst src token
-  pub few : shapeBy bitsOf p .hasToken ≡ true → length token < 2 ^ 62
+  pub is : bs ≡ headerBytes bits p dst src token
+  pub few : shapeBy bits p .hasToken ≡ true → length token < 2 ^ 62
 
-pub was-written : (p : Plain) (dst src : ConnectionId) (token bs : List ℕ) → headerOut p dst src token ≡ ok bs → WasWritten p dst src token bs
+pub was-written : (bits : ℕ → PacketType → ℕ) (p : Plain) (dst src : ConnectionId) (token bs : List ℕ) → headerOut bits p dst src token ≡ ok bs → WasWritten bits p dst src token bs
 unfolding headerOut writtenHeader if_then_else_
-was-written p dst src token bs = go (keepRules (plainNumber p) dst src) refl
+was-written bits p dst src token bs = go (keepRules (plainNumber p) dst src) refl
   where
     all : List ℕ
-    all = headerBytes p dst src token
+    all = headerBytes bits p dst src token
 
-    few : length all ≤ 65527 → shapeBy bitsOf p .hasToken ≡ true → length token < 2 ^ 62
+    few : length all ≤ 65527 → shapeBy bits p .hasToken ≡ true → length token < 2 ^ 62
     few l h =
-        let t : length (tokenBytes (shapeBy bitsOf p .hasToken) token) ≡ varSize (length token) + length token = rw h (length-token token) in
-        omega (arith, l, t, length-shape placeholder (shapeBy bitsOf p) (plainNumber p) dst src token)
+        let t : length (tokenBytes (shapeBy bits p .hasToken) token) ≡ varSize (length token) + length token = rw h (length-token token) in
+        omega (arith, l, t, length-shape placeholder (shapeBy bits p) (plainNumber p) dst src token)
 
-    go : (b : Bool) → keepRules (plainNumber p) dst src ≡ b → _≡_ {A = Answer (List ℕ)} (if b then inHeader all all else no 14) (ok bs) → WasWritten p dst src token bs
+    go : (b : Bool) → keepRules (plainNumber p) dst src ≡ b → _≡_ {A = Answer (List ℕ)} (if b then inHeader all all else no 14) (ok bs) → WasWritten bits p dst src token bs
     go true k h =
         let f = fits-seen all all bs h in
         record { kept = kept (plainNumber p) dst src k; short = rw (← f .1) (f .0); is = sym (f .1); few = few (f .0) }
     go false k h = let z : _≡_ {A = ℕ} 0 1 = cc in absurd (omega arith)
 
 -- 01: what encode writes, decode reads back, whatever follows it
-pub encode-back : (p : Plain) (dst src : ConnectionId) (token bs rest : List ℕ) (local : ℕ) (versions : List ℕ) (grease : Bool)
-    → headerOut p dst src token ≡ ok bs → Typed p dst src → Readable p dst local versions grease → outside (bs ++ rest) local versions ≡ false
-    → headerAt (bs ++ rest) local versions grease ≡ readAs p dst src token 0 1
-encode-back p dst src token bs rest local versions grease e y d o =
-    let w = was-written p dst src token bs e in
-    let s : bs ++ rest ≡ shapeBy bitsOf p .first ∷ upTo bitsOf p dst src token placeholder (numberField (plainNumber p) ++ rest) =
-    ap (λ (l : List ℕ). l ++ rest) (w .is) ∙ header-then bitsOf placeholder p dst src token rest in
+abbrev pub EncodeBack : (ℕ → ℕ → PacketType) → (ℕ → PacketType → ℕ) → Type 0
+EncodeBack types bits =
+    (p : Plain) (dst src : ConnectionId) (token bs rest : List ℕ) (local : ℕ) (versions : List ℕ) (grease : Bool)
+    → headerOut bits p dst src token ≡ ok bs → Typed p dst src → Readable p dst local versions grease → outside (bs ++ rest) local versions ≡ false
+    → headerBy types (bs ++ rest) local versions grease ≡ readAs bits p dst src token 0 1
+
+pub encode-back : (types : ℕ → ℕ → PacketType) (bits : ℕ → PacketType → ℕ) → Tables types bits → EncodeBack types bits
+encode-back types bits pair p dst src token bs rest local versions grease e y d o =
+    let w = was-written bits p dst src token bs e in
+    let s : bs ++ rest ≡ shapeBy bits p .first ∷ upTo bits p dst src token placeholder (numberField (plainNumber p) ++ rest) =
+    ap (λ (l : List ℕ). l ++ rest) (w .is) ∙ header-then bits placeholder p dst src token rest in
     rw s
-    (header-back typeOf bitsOf (table .back) (table .two) dst src token placeholder 0 1 (numberField (plainNumber p) ++ rest) local versions grease p
-    (shapeBy bitsOf p .first) (first-steers bitsOf p (w .kept .cut)) (λ h. reads-placeholder) (w .few) (w .kept) y d (rw s at o))
+    (header-back types bits pair dst src token placeholder 0 1 (numberField (plainNumber p) ++ rest) local versions grease p
+    (shapeBy bits p .first) (first-steers bits p (w .kept .cut)) (λ h. reads-placeholder) (w .few) (w .kept) y d (rw s at o))
+
+-- by the version, as encode writes and decode reads
+pub encode-back-by-version : EncodeBack typeOf bitsOf
+encode-back-by-version = encode-back typeOf bitsOf tables
 
 -- and the token stands in its place
-pub token-back : (p : Plain) (dst src : ConnectionId) (b : ℕ) (token field past : List ℕ) → shapeBy bitsOf p .hasToken ≡ true
-    → partOf (b ∷ upTo bitsOf p dst src token field past) (tokenPlace p dst src token) ≡ token
+pub token-back : (bits : ℕ → PacketType → ℕ) (p : Plain) (dst src : ConnectionId) (b : ℕ) (token field past : List ℕ) → shapeBy bits p .hasToken ≡ true
+    → partOf (b ∷ upTo bits p dst src token field past) (tokenPlace bits p dst src token) ≡ token
 unfolding upTo tokenPlace tokenBytes if_then_else_
-token-back p dst src b token field past h =
-    let w : List ℕ = (b ∷ namesBytes (shapeBy bitsOf p .version) dst src) ++ varBytes (length token) in
-    let l : 1 + length (namesBytes (shapeBy bitsOf p .version) dst src) + varSize (length token) ≡ length w = simp (length-append, length-var) (omega arith) in
-    let q : List ℕ = lengthBytes (shapeBy bitsOf p .hasLength) field ++ past in
-    let s : b ∷ (namesBytes (shapeBy bitsOf p .version) dst src ++ ((varBytes (length token) ++ token) ++ q)) ≡ w ++ (token ++ q) = simp append-assoc in
+token-back bits p dst src b token field past h =
+    let w : List ℕ = (b ∷ namesBytes (shapeBy bits p .version) dst src) ++ varBytes (length token) in
+    let l : 1 + length (namesBytes (shapeBy bits p .version) dst src) + varSize (length token) ≡ length w = simp (length-append, length-var) (omega arith) in
+    let q : List ℕ = lengthBytes (shapeBy bits p .hasLength) field ++ past in
+    let s : b ∷ (namesBytes (shapeBy bits p .version) dst src ++ ((varBytes (length token) ++ token) ++ q)) ≡ w ++ (token ++ q) = simp append-assoc in
     rw (h, l, s) (part-back w token q)

@@ -68,7 +68,7 @@ module _ (made : Header → ℕ → Outcome) (s p q : List ℕ) (at : ℕ) (ea :
 -- ---- the version and the connection ids
 
 module _ (dst src : ConnectionId) (to : dst .len ≤ 20) (from : src .len ≤ 20) (allTo : dst .len ≤ length (dst .bytes)) (allFrom : src .len ≤ length (src .bytes)) where
-  pub names-back : (types : ℕ → PacketType) (steer rest : ℕ) (s versions : List ℕ) (b version : ℕ) (q : List ℕ) → version < 2 ^ 32
+  pub names-back : (types : ℕ → ℕ → PacketType) (steer rest : ℕ) (s versions : List ℕ) (b version : ℕ) (q : List ℕ) → version < 2 ^ 32
       → s ≡ b ∷ (bytesBE 4 version ++ (longBytes dst ++ (longBytes src ++ q)))
       → longAt types steer rest s versions
       ≡ bodyAt types steer rest s versions version (cidOf (cidBytes dst)) (cidOf (cidBytes src)) (5 + 1 + dst .len + 1 + src .len)

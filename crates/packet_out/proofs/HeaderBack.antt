@@ -1,5 +1,5 @@
 -- A written header is read back, whatever stands past it, and whatever the bits of its first byte that do not steer: once over
--- any pair of a table of types and its inverse.
+-- any pair of tables of types and their inverses, by the version.
 use Prim.Native.Nat.{ℕ, _+_, _*_, _/_, _%_, _^_, _≤_, _<_}
 use mathlib.Core.Path.{_≡_, refl, ap, _∙_}
 use mathlib.Core.List.{List, [], _∷_, _++_, append-assoc}
@@ -25,6 +25,7 @@ use Rattle.packet.specs.Header.{outside, unfixed, listed, headed, tailAt, bodyA
 use Rattle.packet.specs.Header as read
 use Rattle.packet.specs.TypeBits.{PacketType}
 use Rattle.packet.specs.TypeBits as type
+use Rattle.packet.proofs.Types.{Tables}
 use Rattle.packet_out.specs.Encoding.{Plain, initial, zeroRtt, handshake, retry, short, negotiate, plainNumber, bitIf, shapeBy, namesBytes, tokenBytes, lengthBytes}
 use Rattle.packet_out.specs.Back.{kindRead, versionRead, srcRead, tokenPlace, endRead, readAs, Readable, Typed}
 use Rattle.packet_out.proofs.Laws.{Kept, length-names}
@@ -43,7 +44,7 @@ fixed-set b true h = refl
 fixed-set b false h = ne-eqb (b / 64 % 2) 0 (λ z. omega (arith, h, z))
 
 -- a packet whose arguments keep their rules and whose first byte is not refused
-begun : (types : ℕ → PacketType) (b : ℕ) (l : List ℕ) (local : ℕ) (versions : List ℕ) (grease : Bool) → outside (b ∷ l) local versions ≡ false → unfixed b grease ≡ false
+begun : (types : ℕ → ℕ → PacketType) (b : ℕ) (l : List ℕ) (local : ℕ) (versions : List ℕ) (grease : Bool) → outside (b ∷ l) local versions ≡ false → unfixed b grease ≡ false
     → read.headerBy types (b ∷ l) local versions grease ≡ (if ltb b 128 then shortAt (b / 32) (b ∷ l) local else longAt types (b / 16) (b % 16) (b ∷ l) versions)
 unfolding read.headerBy firstAt andThen if_then_else_
 begun types b l local versions grease o u = rw (o, first-here b l, u)
@@ -54,7 +55,7 @@ names-assoc : (v : ℕ) (dst src : ConnectionId) (q : List ℕ) → namesBytes (
 unfolding namesBytes
 names-assoc v dst src q = simp append-assoc
 
-module _ (types : ℕ → PacketType) (dst src : ConnectionId) (to : dst .len ≤ 20) (from : src .len ≤ 20) (allTo : length (dst .bytes) ≡ 20) (allFrom : length (src .bytes) ≡ 20)
+module _ (types : ℕ → ℕ → PacketType) (dst src : ConnectionId) (to : dst .len ≤ 20) (from : src .len ≤ 20) (allTo : length (dst .bytes) ≡ 20) (allFrom : length (src .bytes) ≡ 20)
     (b v : ℕ) (small : v < 2 ^ 32) (q : List ℕ) (local : ℕ) (versions : List ℕ) (grease : Bool)
     (o : outside (b ∷ (namesBytes (some v) dst src ++ q)) local versions ≡ false) (u : unfixed b grease ≡ false) (long : 128 ≤ b) where
   -- as far as the connection ids
@@ -68,7 +69,7 @@ module _ (types : ℕ → PacketType) (dst src : ConnectionId) (to : dst .len �
       (names-back dst src to from (omega arith) (omega arith) types (b / 16) (b % 16) _ versions b v q small (ap (λ (l : List ℕ). b ∷ l) (names-assoc v dst src q)))
 
   -- by the type, where the version is listed and not 0
-  pub typed : (t : PacketType) → types (b / 16 % 4) ≡ t → listed versions v ≡ true → (v ≡ 0 → ⊥)
+  pub typed : (t : PacketType) → types v (b / 16 % 4) ≡ t → listed versions v ≡ true → (v ≡ 0 → ⊥)
       → read.headerBy types (b ∷ (namesBytes (some v) dst src ++ q)) local versions grease
       ≡ tailAt t (headed (cidOf (cidBytes dst)) (cidOf (cidBytes src)) v) (b ∷ (namesBytes (some v) dst src ++ q)) (1 + length (namesBytes (some v) dst src))
   unfolding bodyAt if_then_else_
@@ -82,7 +83,7 @@ module _ (types : ℕ → PacketType) (dst src : ConnectionId) (to : dst .len �
 
 -- ---- short headers
 
-module _ (types : ℕ → PacketType) (dst src : ConnectionId) (to : dst .len ≤ 20) (all : length (dst .bytes) ≡ 20) (b : ℕ) (q versions : List ℕ) (grease : Bool)
+module _ (types : ℕ → ℕ → PacketType) (dst src : ConnectionId) (to : dst .len ≤ 20) (all : length (dst .bytes) ≡ 20) (b : ℕ) (q versions : List ℕ) (grease : Bool)
     (o : outside (b ∷ (namesBytes none dst src ++ q)) (dst .len) versions ≡ false) (u : unfixed b grease ≡ false) (form : b < 128) where
   pub short-back : read.headerBy types (b ∷ (namesBytes none dst src ++ q)) (dst .len) versions grease
       ≡ headed (cidOf (cidBytes dst)) (cidOf []) 0 (read.short (eqb (b / 32 % 2) 1)) (1 + length (namesBytes none dst src))
@@ -101,11 +102,11 @@ unfolding unfixed
 greased b random grease e = ⊎-elim (λ g. rw g) (λ h. fixed-set b grease (omega (arith, e, h)))
 
 -- the bits of the first byte that steer
-unfoldable pub Steers : (PacketType → ℕ) → Plain → ℕ → Type 0
-Steers bits (initial c v) b = b / 16 ≡ 12 + bits type.initial
-Steers bits (zeroRtt c v) b = b / 16 ≡ 12 + bits type.zeroRtt
-Steers bits (handshake c v) b = b / 16 ≡ 12 + bits type.handshake
-Steers bits (retry v) b = b / 16 ≡ 12 + bits type.retry
+unfoldable pub Steers : (ℕ → PacketType → ℕ) → Plain → ℕ → Type 0
+Steers bits (initial c v) b = b / 16 ≡ 12 + bits v type.initial
+Steers bits (zeroRtt c v) b = b / 16 ≡ 12 + bits v type.zeroRtt
+Steers bits (handshake c v) b = b / 16 ≡ 12 + bits v type.handshake
+Steers bits (retry v) b = b / 16 ≡ 12 + bits v type.retry
 Steers bits (short spin phase c) b = b / 32 ≡ 2 + bitIf spin 1
 Steers bits (negotiate random) b = b ≡ longHeaderForm + random % longHeaderForm
 
@@ -120,29 +121,29 @@ spin-bit true x e = eq-eqb (x % 2) 1 (omega (arith, e))
 spin-bit false x e = ne-eqb (x % 2) 1 (λ z. omega (arith, e, z))
 
 -- the bytes of a header up to its number, and past it
-unfoldable pub upTo : (PacketType → ℕ) → Plain → ConnectionId → ConnectionId → List ℕ → List ℕ → List ℕ → List ℕ
+unfoldable pub upTo : (ℕ → PacketType → ℕ) → Plain → ConnectionId → ConnectionId → List ℕ → List ℕ → List ℕ → List ℕ
 upTo bits p dst src token field past =
     namesBytes (shapeBy bits p .version) dst src ++ (tokenBytes (shapeBy bits p .hasToken) token ++ (lengthBytes (shapeBy bits p .hasLength) field ++ past))
 
-module _ (types : ℕ → PacketType) (bits : PacketType → ℕ) (inverse : (t : PacketType) → types (bits t) ≡ t) (two : (t : PacketType) → bits t < 4) where
+module _ (types : ℕ → ℕ → PacketType) (bits : ℕ → PacketType → ℕ) (pair : Tables types bits) where
   -- the type of a byte that steers
-  steered : (t : PacketType) (b : ℕ) → b / 16 ≡ 12 + bits t → types (b / 16 % 4) ≡ t
-  steered t b e = let k : b / 16 % 4 ≡ bits t = omega (arith, e, two t) in ap types k ∙ inverse t
+  steered : (v : ℕ) (t : PacketType) (b : ℕ) → b / 16 ≡ 12 + bits v t → types v (b / 16 % 4) ≡ t
+  steered v t b e = let k : b / 16 % 4 ≡ bits v t = omega (arith, e, pair v .two t) in ap (types v) k ∙ pair v .back t
 
   module _ (dst src : ConnectionId) (token field : List ℕ) (n m : ℕ) (past : List ℕ)
       (local : ℕ) (versions : List ℕ) (grease : Bool) where
     -- a long header with a version that is listed and not 0
     module _ (to : dst .len ≤ 20) (from : src .len ≤ 20) (allTo : length (dst .bytes) ≡ 20) (allFrom : length (src .bytes) ≡ 20)
-        (b v : ℕ) (thirtyTwo : v < 2 ^ 32) (t : PacketType) (e : b / 16 ≡ 12 + bits t) (l : listed versions v ≡ true) (z : v ≡ 0 → ⊥) (q : List ℕ)
+        (b v : ℕ) (thirtyTwo : v < 2 ^ 32) (t : PacketType) (e : b / 16 ≡ 12 + bits v t) (l : listed versions v ≡ true) (z : v ≡ 0 → ⊥) (q : List ℕ)
         (o : outside (b ∷ (namesBytes (some v) dst src ++ q)) local versions ≡ false) where
       long-back : read.headerBy types (b ∷ (namesBytes (some v) dst src ++ q)) local versions grease
           ≡ tailAt t (headed (cidOf (cidBytes dst)) (cidOf (cidBytes src)) v) (b ∷ (namesBytes (some v) dst src ++ q)) (1 + length (namesBytes (some v) dst src))
       long-back =
-          typed types dst src to from allTo allFrom b v thirtyTwo q local versions grease o (fixed-set b grease (omega (arith, e, two t))) (omega (arith, e)) t (steered t b e) l z
+          typed types dst src to from allTo allFrom b v thirtyTwo q local versions grease o (fixed-set b grease (omega (arith, e, pair v .two t))) (omega (arith, e)) t (steered v t b e) l z
 
     pub header-back : (p : Plain) (b : ℕ) → Steers bits p b → (shapeBy bits p .hasLength ≡ true → ReadsAs field n m) → (shapeBy bits p .hasToken ≡ true → length token < 2 ^ 62) → Kept (plainNumber p) dst src → Typed p dst src → Readable p dst local versions grease
         → outside (b ∷ upTo bits p dst src token field past) local versions ≡ false
-        → read.headerBy types (b ∷ upTo bits p dst src token field past) local versions grease ≡ readAs p dst src token n m
+        → read.headerBy types (b ∷ upTo bits p dst src token field past) local versions grease ≡ readAs bits p dst src token n m
     unfolding Steers Readable upTo shapeBy readAs kindRead versionRead srcRead tokenPlace endRead tokenBytes lengthBytes if_then_else_ tailAt
     header-back (initial c v) b e r small k y d o =
         let w : List ℕ = b ∷ namesBytes (some v) dst src in

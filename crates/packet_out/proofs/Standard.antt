@@ -19,7 +19,7 @@ long-number ty.Handshake c v = refl
 long-number ty.ZeroRtt c v = refl
 
 pub long-shape : (ty : LongType) (c : CutNumber) (v : ℕ)
-    → shapeBy bitsOf (writtenLong ty c v) ≡ longShape (longFirst (bitsOf (longTypeOf (kind.Standard ty))) + lengthBits c) v false true
+    → shapeBy bitsOf (writtenLong ty c v) ≡ longShape (longFirst (bitsOf v (longTypeOf (kind.Standard ty))) + lengthBits c) v false true
 unfolding shapeBy writtenLong longTypeOf
 long-shape ty.Handshake c v = refl
 long-shape ty.ZeroRtt c v = refl

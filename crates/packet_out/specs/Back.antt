@@ -13,7 +13,7 @@ use Rattle.shared.specs.Cid.{cidOf, cidBytes, maxCid}
 use Rattle.shared.specs.declared.cid.ConnectionId.{ConnectionId}
 use Rattle.packet.specs.Header.{Header, Outcome, headed, listed}
 use Rattle.packet.specs.Header as read
-use Rattle.packet.specs.TypeBits.{bitsOf}
+use Rattle.packet.specs.TypeBits.{PacketType}
 use Rattle.protect.specs.Steps.{Opened}
 use Rattle.protect.specs.Steps as protect
 use Rattle.packet_out.specs.Encoding.{Plain, initial, zeroRtt, handshake, retry, short, negotiate, namesBytes, tokenBytes, shapeBy}
@@ -45,19 +45,19 @@ srcRead (short spin phase c) src = []
 srcRead (negotiate random) src = cidBytes src
 
 -- where the token stands
-unfoldable pub tokenPlace : Plain → ConnectionId → ConnectionId → List ℕ → Place
-tokenPlace p dst src token = record { start = 1 + length (namesBytes (shapeBy bitsOf p .version) dst src) + varSize (length token); len = length token }
+unfoldable pub tokenPlace : (ℕ → PacketType → ℕ) → Plain → ConnectionId → ConnectionId → List ℕ → Place
+tokenPlace bits p dst src token = record { start = 1 + length (namesBytes (shapeBy bits p .version) dst src) + varSize (length token); len = length token }
 
 -- where the header ends that has a Length of m bytes, if any
-unfoldable pub endRead : Plain → ConnectionId → ConnectionId → List ℕ → ℕ → ℕ
-endRead p dst src token m =
-    1 + length (namesBytes (shapeBy bitsOf p .version) dst src) + length (tokenBytes (shapeBy bitsOf p .hasToken) token)
-    + (if shapeBy bitsOf p .hasLength then m else 0)
+unfoldable pub endRead : (ℕ → PacketType → ℕ) → Plain → ConnectionId → ConnectionId → List ℕ → ℕ → ℕ
+endRead bits p dst src token m =
+    1 + length (namesBytes (shapeBy bits p .version) dst src) + length (tokenBytes (shapeBy bits p .hasToken) token)
+    + (if shapeBy bits p .hasLength then m else 0)
 
 -- a header that was written with a Length of m bytes, whose value is len, is read as this
-unfoldable pub readAs : Plain → ConnectionId → ConnectionId → List ℕ → ℕ → ℕ → Outcome
-readAs p dst src token len m =
-    headed (cidOf (cidBytes dst)) (cidOf (srcRead p src)) (versionRead p) (kindRead p (tokenPlace p dst src token) len) (endRead p dst src token m)
+unfoldable pub readAs : (ℕ → PacketType → ℕ) → Plain → ConnectionId → ConnectionId → List ℕ → ℕ → ℕ → Outcome
+readAs bits p dst src token len m =
+    headed (cidOf (cidBytes dst)) (cidOf (srcRead p src)) (versionRead p) (kindRead p (tokenPlace bits p dst src token) len) (endRead bits p dst src token m)
 
 -- it can be read where its version is listed and not 0; a short one with its connection id's length; Version Negotiation
 -- with grease, or with the fixed bit set

@@ -13,7 +13,7 @@ use Rattle.packet_out.specs.Length.{lengthField}
 
 -- the rules are kept, and the packet, header and payload, has at most 65,527 bytes
 unfoldable pub roomy : Plain → ConnectionId → ConnectionId → List ℕ → ℕ → Bool
-roomy p dst src token n = keepRules (plainNumber p) dst src && leb (length (headerBytes p dst src token) + n) maxDatagram
+roomy p dst src token n = keepRules (plainNumber p) dst src && leb (length (headerBytes bitsOf p dst src token) + n) maxDatagram
 
 -- the header, with these bytes for its Length; else 14
 unfoldable pub headerBefore : List ℕ → Plain → ConnectionId → ConnectionId → List ℕ → ℕ → Answer (List ℕ)

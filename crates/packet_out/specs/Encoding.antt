@@ -64,12 +64,12 @@ longShape first version hasToken hasLength = record { first = first; version = s
 abbrev pub shortShape : ℕ → Shape
 shortShape first = record { first = first; version = none; hasToken = false; hasLength = false }
 
--- by the kind, for any bits of the types
-unfoldable pub shapeBy : (PacketType → ℕ) → Plain → Shape
-shapeBy bits (initial c v) = longShape (longFirst (bits type.initial) + lengthBits c) v true true
-shapeBy bits (zeroRtt c v) = longShape (longFirst (bits type.zeroRtt) + lengthBits c) v false true
-shapeBy bits (handshake c v) = longShape (longFirst (bits type.handshake) + lengthBits c) v false true
-shapeBy bits (retry v) = longShape (longFirst (bits type.retry)) v false false
+-- by the kind, for any bits of the types by the version
+unfoldable pub shapeBy : (ℕ → PacketType → ℕ) → Plain → Shape
+shapeBy bits (initial c v) = longShape (longFirst (bits v type.initial) + lengthBits c) v true true
+shapeBy bits (zeroRtt c v) = longShape (longFirst (bits v type.zeroRtt) + lengthBits c) v false true
+shapeBy bits (handshake c v) = longShape (longFirst (bits v type.handshake) + lengthBits c) v false true
+shapeBy bits (retry v) = longShape (longFirst (bits v type.retry)) v false false
 shapeBy bits (short spin phase c) = shortShape (shortFirst spin phase + lengthBits c)
 shapeBy bits (negotiate random) = longShape (longHeaderForm + random % longHeaderForm) 0 false false
 
@@ -100,15 +100,15 @@ shapeBytes field shape number dst src token =
     shape .first
     ∷ (namesBytes (shape .version) dst src ++ (tokenBytes (shape .hasToken) token ++ (lengthBytes (shape .hasLength) field ++ numberField number)))
 
-unfoldable pub writtenHeader : (PacketType → ℕ) → List ℕ → Plain → ConnectionId → ConnectionId → List ℕ → List ℕ
+unfoldable pub writtenHeader : (ℕ → PacketType → ℕ) → List ℕ → Plain → ConnectionId → ConnectionId → List ℕ → List ℕ
 writtenHeader bits field p dst src token = shapeBytes field (shapeBy bits p) (plainNumber p) dst src token
 
 -- its place is kept by two bytes of 0
 abbrev pub placeholder : List ℕ
 placeholder = bytesBE 2 0
 
-abbrev pub headerBytes : Plain → ConnectionId → ConnectionId → List ℕ → List ℕ
-headerBytes = writtenHeader bitsOf placeholder
+abbrev pub headerBytes : (ℕ → PacketType → ℕ) → Plain → ConnectionId → ConnectionId → List ℕ → List ℕ
+headerBytes bits = writtenHeader bits placeholder
 
 -- ---- what encode writes and answers
 
@@ -126,9 +126,9 @@ unfoldable pub inHeader : {A : Type 0} → List ℕ → A → Answer A
 inHeader bs a = if leb (length bs) maxDatagram then ok a else no 14
 
 -- what encode writes: 14 comes before all else
-unfoldable pub headerOut : Plain → ConnectionId → ConnectionId → List ℕ → Answer (List ℕ)
-headerOut p dst src token =
-    if keepRules (plainNumber p) dst src then inHeader (headerBytes p dst src token) (headerBytes p dst src token) else no 14
+unfoldable pub headerOut : (ℕ → PacketType → ℕ) → Plain → ConnectionId → ConnectionId → List ℕ → Answer (List ℕ)
+headerOut bits p dst src token =
+    if keepRules (plainNumber p) dst src then inHeader (headerBytes bits p dst src token) (headerBytes bits p dst src token) else no 14
 
 -- the header's length, its number's length, where it has one, and whether a Length is to be set
 pub record Partial : Type 0 where
@@ -150,4 +150,4 @@ pub record EncodesAs (p : Plain) (w : Answer (List ℕ)) (old : List ℕ) (said 
   pub leaves : new ≡ intoBuffer (inRoom (length old) w) old
 
 abbrev pub Encodes : Plain → ConnectionId → ConnectionId → List ℕ → List ℕ → Answer Partial → List ℕ → Type 0
-Encodes p dst src token = EncodesAs p (headerOut p dst src token)
+Encodes p dst src token = EncodesAs p (headerOut bitsOf p dst src token)

@@ -107,17 +107,10 @@ pub(crate) fn has_length(header: Header) -> bool
 }
 
 // A long header's first byte, its four low bits clear.
-fn long_first(ty: LongHeaderType) -> u8
-    ensures { λ r. ⌜ (r ≡ longFirst (bitsOf (longTypeOf ty))) × (r ≤ 0xf0) ⌝ }
+fn long_first(ty: LongHeaderType, version: u32) -> u8
+    ensures { λ r. ⌜ (r ≡ longFirst (bitsOf version (longTypeOf ty))) × (r ≤ 0xf0) ⌝ }
 {
-    match ty {
-        LongHeaderType::Initial => LONG_HEADER_FORM + FIXED_BIT,
-        LongHeaderType::Retry => LONG_HEADER_FORM + FIXED_BIT + 0x30,
-        LongHeaderType::Standard(ty) => match ty {
-            LongType::ZeroRtt => LONG_HEADER_FORM + FIXED_BIT + 0x10,
-            LongType::Handshake => LONG_HEADER_FORM + FIXED_BIT + 0x20,
-        },
-    }
+    LONG_HEADER_FORM + FIXED_BIT + ty.bits(version) * 16
 }
 
 fn bit_if(b: bool, x: u8) -> u8
@@ -163,7 +156,7 @@ pub(crate) fn form_of(header: Header) -> Form
 {
     match header {
         Header::Initial { number, version } => {
-            let first = long_first(LongHeaderType::Initial) + low_bits(number);
+            let first = long_first(LongHeaderType::Initial, version) + low_bits(number);
             long_form(first, version, true, true)
         }
         Header::Long {
@@ -171,11 +164,12 @@ pub(crate) fn form_of(header: Header) -> Form
             number,
             version,
         } => {
-            let first = long_first(LongHeaderType::Standard(ty)) + low_bits(number);
+            let first = long_first(LongHeaderType::Standard(ty), version) + low_bits(number);
             long_form(first, version, false, true)
         }
         Header::Retry { version } => {
-            long_form(long_first(LongHeaderType::Retry), version, false, false)
+            let first = long_first(LongHeaderType::Retry, version);
+            long_form(first, version, false, false)
         }
         Header::Short {
             spin,

@@ -10,12 +10,13 @@
 //!                                    PACKET
 //! split CID_LEN GREASE DATAGRAM      for each packet: KIND PACKET NUMBER_OFFSET VERSION DST SRC TOKEN LENGTH SPIN RANDOM
 //! unmask KIND NUMBER_OFFSET MASK PACKET
-//!                                    LEN VALUE RESERVED_CLEAR PHASE
+//!                                    LEN VALUE RESERVED_CLEAR PHASE HEADER
 //! expand ACCEPTED LEN VALUE          the full number of a cut one, with the largest accepted or -: NUMBER
 //! frames PAYLOAD                     for each frame: TYPE PLACE
 //! ```
-//! What is refused is answered with `refused` and the error's number, what cannot be read with `bad`.
-use guobbarel::{CutNumber, Ends, Error, Frames, FullNumber, Header, Kind, Packets, Written, sample, unmask};
+//! Versions 1 and 2 are listed. What is refused is answered with `refused` and the error's number, what cannot be read with `bad`.
+use guobbarel::{CutNumber, Ends, Error, Frames, FullNumber, Header, Kind, Packets, Written};
+use guobbarel::{VERSION_1, VERSION_2, sample, unmask};
 use std::io::{BufRead, Write};
 use std::str::FromStr;
 
@@ -148,7 +149,7 @@ fn sampled(words: &mut Words) -> Result<String, No> {
 fn split(words: &mut Words) -> Result<String, No> {
     let (cid_len, grease, datagram) = (words.number()?, words.flag()?, words.bytes()?);
     let mut line = Vec::new();
-    for packet in Packets::new(&datagram, cid_len, &[1], grease) {
+    for packet in Packets::new(&datagram, cid_len, &[VERSION_1, VERSION_2], grease) {
         let p = packet.map_err(|refused| refused.error)?;
         let at = |part| place(&datagram, part);
         line.push(format!(
@@ -170,9 +171,10 @@ fn split(words: &mut Words) -> Result<String, No> {
 
 fn unmasked(words: &mut Words) -> Result<String, No> {
     let (kind, number_offset, mask) = (words.kind()?, words.number()?, words.mask()?);
-    let open = unmask(kind, &mut words.bytes()?, number_offset, &mask)?.ok_or(No::Bad)?;
+    let mut packet = words.bytes()?;
+    let open = unmask(kind, &mut packet, number_offset, &mask)?.ok_or(No::Bad)?;
     let (number, clear, phase) = (open.number, u8::from(open.reserved_clear), u8::from(open.key_phase));
-    Ok(format!("{} {} {clear} {phase}", number.len(), number.value()))
+    Ok(format!("{} {} {clear} {phase} {}", number.len(), number.value(), hex(&packet[open.header])))
 }
 
 fn frames(words: &mut Words) -> Result<String, No> {

@@ -7,6 +7,7 @@ mod number;
 mod packet;
 mod packet_out;
 
+use super::ask;
 use super::rng::{END, Rng};
 use super::words::hex;
 
@@ -51,6 +52,14 @@ pub fn random(seed: u64, case: u64, ops: &[&str]) -> Option<String> {
         }
     }
     None
+}
+
+/// What the oracle answers, without its mark.
+fn answered(question: &str) -> String {
+    let mut answer = String::new();
+    ask::answer(question, &mut answer);
+    answer.truncate(answer.find(" #").unwrap_or(answer.len()));
+    answer
 }
 
 /// An integer, or one time in four a number past them all.

@@ -1,4 +1,5 @@
-//! Where document 01 decides and the Rust panics or says otherwise: the names are headings of docs/DIFFERENCES.md.
+//! Where document 01, or for version 2 RFC 9369, decides and the Rust panics or says otherwise: the names are headings of
+//! docs/DIFFERENCES.md.
 use std::panic::{AssertUnwindSafe, catch_unwind};
 
 pub const VARINT_62: &str = "varint-62";
@@ -27,8 +28,9 @@ pub const ACK_LIST: &str = "ack-list";
 pub const NCID_OUT: &str = "ncid-out";
 pub const STREAM_END: &str = "stream-end";
 pub const MAX_LEN: &str = "max-len";
+pub const VERSION_2: &str = "version-2";
 
-/// What document 01 answers, and the difference's name.
+/// What the paper answers, and the difference's name.
 pub struct Decided {
     pub answer: String,
     pub name: &'static str,
@@ -38,7 +40,7 @@ pub fn decided(name: &'static str, answer: String) -> Option<Decided> {
     Some(Decided { answer, name })
 }
 
-/// The Rust's own answer or, where 01 decides, that answer with its mark; the Rust is run all the same, and
+/// The Rust's own answer or, where the paper decides, that answer with its mark; the Rust is run all the same, and
 /// must panic or differ there.
 pub fn settle(out: &mut String, paper: Option<Decided>, rust: impl FnOnce() -> String) {
     let Some(Decided { answer, name }) = paper else {

@@ -4,6 +4,8 @@ pub struct Rng(u64);
 
 /// One past the largest integer.
 pub const END: u64 = 1 << 62;
+/// The number of version 2 (RFC 9369).
+pub const VERSION_2: u32 = 0x6b33_43cf;
 
 impl Rng {
     /// The values of one case: the same whichever other cases are made.

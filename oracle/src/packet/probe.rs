@@ -4,6 +4,7 @@ mod ends;
 mod gateway;
 mod number;
 mod reading;
+pub(crate) mod version_2;
 mod writing;
 
 pub(crate) use ends::ends;

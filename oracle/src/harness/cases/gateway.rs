@@ -1,11 +1,10 @@
 //! Cases of the C surface: those of the operations that its functions stand on, as these are asked. One time in some dozens an
 //! argument is what only the surface can be given.
-use super::super::ask;
 use super::super::rng::{END, Rng};
 use super::super::table::KINDS;
 use super::super::words::{hex, unhex};
 use super::number::{distance, near, read, set_to};
-use super::{Made, frame, packet, packet_out};
+use super::{Made, answered, frame, packet, packet_out};
 
 pub const MADE: &[Made] = &[
     ("gsplit", 10, gsplit),
@@ -29,9 +28,7 @@ fn len(bytes: &str) -> usize {
 
 /// The places where a walk's answer says that a packet or a frame starts.
 fn starts(question: &str, between: &str) -> Vec<u64> {
-    let mut answer = String::new();
-    ask::answer(question, &mut answer);
-    answer.split(between).filter_map(|said| said.split(' ').next()?.parse().ok()).collect()
+    answered(question).split(between).filter_map(|said| said.split(' ').next()?.parse().ok()).collect()
 }
 
 /// The start, one of these places, or any.

@@ -1,10 +1,10 @@
 //! Cases of packets in: header decode, split, walk, dump, the sample's place, finish.
-use super::super::ask;
-use super::super::rng::Rng;
+use super::super::rng::{Rng, VERSION_2};
 use super::super::table::KINDS;
 use super::super::words::{hex, unhex};
 use super::packet_out::{MOST, cid_len, good, token_len};
-use super::{Made, begun, bytes};
+use super::{Made, answered, begun, bytes};
+use crate::packet::probe::version_2::Types;
 
 pub const MADE: &[Made] = &[
     ("decode", 4, read),
@@ -22,10 +22,23 @@ struct Reader {
     versions: Vec<u32>,
 }
 
-const VERSIONS: [u32; 6] = [1, 1, 1, 0x6b33_43cf, 2, 0];
+const VERSIONS: [u32; 6] = [1, 1, 1, VERSION_2, 2, 0];
 
 fn a_version(r: &mut Rng) -> u32 {
     if r.one_in(4) { r.bits() as u32 } else { r.pick(&VERSIONS) }
+}
+
+/// One version; often version 2 alone, after 1 or before it; any number of versions, rarely too many.
+fn list(r: &mut Rng) -> Vec<u32> {
+    let count = match r.below(100) {
+        0 => 17 + r.below(3),
+        1..26 => r.below(17),
+        26..32 => return vec![VERSION_2],
+        32..38 => return vec![1, VERSION_2],
+        38..44 => return vec![VERSION_2, 1],
+        _ => 1,
+    };
+    (0..count).map(|_| a_version(r)).collect()
 }
 
 impl Reader {
@@ -36,12 +49,7 @@ impl Reader {
             1..50 => r.pick(&[0, 0, 4, 8, 20]),
             _ => r.below(21),
         };
-        let count = match r.below(100) {
-            0 => 17 + r.below(3),
-            1..30 => r.below(17),
-            _ => 1,
-        };
-        Self { local, grease: r.one_in(3), versions: (0..count).map(|_| a_version(r)).collect() }
+        Self { local, grease: r.one_in(3), versions: list(r) }
     }
 
     fn words(&self) -> String {
@@ -50,13 +58,17 @@ impl Reader {
         format!("{} {} {versions}", self.local, u8::from(self.grease))
     }
 
-    /// A version of the list, mostly.
+    /// A version of the list, mostly; at times version 2 or any, listed or not.
     fn listed(&self, r: &mut Rng) -> u32 {
-        if self.versions.is_empty() || r.one_in(20) { a_version(r) } else { r.pick(&self.versions) }
+        match r.below(20) {
+            0 => VERSION_2,
+            2.. if !self.versions.is_empty() => r.pick(&self.versions),
+            _ => a_version(r),
+        }
     }
 }
 
-/// A long header up to its connection ids.
+/// A long header up to its connection ids. The type bits are given as version 1 has them.
 fn long(first: u8, version: u32, dst: &[u8], src: &[u8]) -> Vec<u8> {
     let mut b = vec![first];
     b.extend(version.to_be_bytes());
@@ -64,6 +76,7 @@ fn long(first: u8, version: u32, dst: &[u8], src: &[u8]) -> Vec<u8> {
         b.push(cid.len() as u8);
         b.extend(cid);
     }
+    Types::OfTheRfc.forth(&mut b);
     b
 }
 
@@ -74,7 +87,7 @@ fn integer(x: u64, least: usize) -> Vec<u8> {
     (x | top).to_be_bytes()[8 - n..].to_vec()
 }
 
-/// Behind a packet's Length: mostly as many bytes as it says, at times a few more or fewer; or a Length of any size.
+/// Behind a packet's Length: mostly as many bytes as it says, at times a few more or fewer; or a Length of any size, or one that is cut.
 fn with_length(r: &mut Rng, mut b: Vec<u8>) -> Vec<u8> {
     let n = r.below(44) as usize;
     let said = match r.below(24) {
@@ -83,13 +96,27 @@ fn with_length(r: &mut Rng, mut b: Vec<u8>) -> Vec<u8> {
         _ => n as u64,
     };
     let least = if r.one_in(2) { 2 } else { r.pick(&[1, 1, 4, 8]) };
-    b.extend(integer(said, least));
+    let length = integer(said, least);
+    if r.one_in(40) {
+        b.extend(&length[..r.below(length.len() as u64) as usize]);
+        return b;
+    }
+    b.extend(length);
     b.extend(r.bytes(n));
     b
 }
 
-/// A packet made by hand: of a kind that has a Length, or of any kind.
+/// A packet made by hand, at times with another type's bits.
 fn made(r: &mut Rng, reader: &Reader, has_length: bool) -> Vec<u8> {
+    let mut b = fitting(r, reader, has_length);
+    if r.one_in(20) {
+        b[0] ^= 0x10 << r.below(2);
+    }
+    b
+}
+
+/// A packet made by hand: of a kind that has a Length, or of any kind.
+fn fitting(r: &mut Rng, reader: &Reader, has_length: bool) -> Vec<u8> {
     let low = r.bits() as u8 & 0x0f;
     let fixed = if r.one_in(10) { 0 } else { 0x40 };
     let (d, s) = (cid_len(r), cid_len(r));
@@ -100,7 +127,7 @@ fn made(r: &mut Rng, reader: &Reader, has_length: bool) -> Vec<u8> {
         0 => {
             let mut b = long(0x80 | fixed | low, version, &dst, &src);
             let n = token_len(r);
-            let said = if r.one_in(20) { r.near(n) as u64 + r.below(70) } else { n as u64 };
+            let said = if r.one_in(12) { r.near(n) as u64 + r.below(70) } else { n as u64 };
             b.extend(integer(said, r.pick(&[1, 1, 1, 2, 4, 8])));
             b.extend(r.bytes(n));
             with_length(r, b)
@@ -123,8 +150,7 @@ fn made(r: &mut Rng, reader: &Reader, has_length: bool) -> Vec<u8> {
 /// A packet that the Rust wrote.
 fn written(r: &mut Rng, reader: &Reader, has_length: bool) -> Vec<u8> {
     let version = reader.listed(r);
-    let mut answer = String::new();
-    ask::answer(&good(r, reader.local.min(20) as usize, version, has_length), &mut answer);
+    let answer = answered(&good(r, reader.local.min(20) as usize, version, has_length));
     unhex(answer.trim_start_matches("ok ")).unwrap_or_default()
 }
 
@@ -177,15 +203,12 @@ const ROOM: usize = 4 * MOST + 64;
 
 /// How long the dump's text is.
 fn text_len(datagram: &[u8]) -> usize {
-    let mut answer = String::new();
-    ask::answer(&format!("dump {ROOM} {}", hex(datagram)), &mut answer);
-    answer.find(" #").unwrap_or(answer.len())
+    answered(&format!("dump {ROOM} {}", hex(datagram))).len()
 }
 
 /// The first packet of a datagram, with the kind and the offset that the Rust reads in it; none where it refuses it.
 fn split_off(reader: &str, datagram: &[u8]) -> Option<(String, u64, Vec<u8>)> {
-    let mut answer = String::new();
-    ask::answer(&format!("walk {reader} {}", hex(datagram)), &mut answer);
+    let answer = answered(&format!("walk {reader} {}", hex(datagram)));
     let words: Vec<&str> = answer.split(';').next()?.split(' ').collect();
     let ["0", len, kind, offset] = words[..] else {
         return None;
@@ -267,34 +290,46 @@ pub fn exhaust(emit: &mut dyn FnMut(String)) {
 }
 
 /// The smallest packet that others can follow.
-fn smallest() -> Vec<u8> {
-    [long(0xe0, 1, &[], &[]), vec![0]].concat()
+fn smallest(version: u32) -> Vec<u8> {
+    [long(0xe0, version, &[], &[]), vec![0]].concat()
 }
 
 /// The smallest packets, one after the other, up to so many bytes.
 fn smallest_up_to(n: usize) -> Vec<u8> {
-    smallest().into_iter().cycle().take(n).collect()
+    smallest(1).into_iter().cycle().take(n).collect()
 }
 
 fn first_bytes(emit: &mut dyn FnMut(String)) {
     let tails =
         ["", "00", "0000", "0000 00", "0000 00 00", "0000 05 aa", "0000 01 aa 02 bbcc", "0102 03 04 00 01 dd ee"];
     for first in 0..=0xff {
-        for version in [0, 1, 2] {
+        for version in [0, 1, 2, VERSION_2] {
             for tail in tails {
-                let mut b = vec![first, 0, 0, 0, version];
-                b.extend(unhex(&tail.replace(' ', "")).unwrap_or_default());
+                let tail = unhex(&tail.replace(' ', "")).unwrap_or_default();
+                let b = [&[first][..], &version.to_be_bytes(), &tail].concat();
                 ["0 0 1", "0 1 1"].iter().for_each(|reader| each_read(emit, reader, &b));
-                let second = hex(&[smallest(), b].concat());
+                let second = hex(&[smallest(1), b.clone()].concat());
                 emit(format!("walk {DUMP} {second}"));
                 emit(format!("dump {ROOM} {second}"));
+                if version == VERSION_2 {
+                    let readers = ["0 0 V", "0 0 1,V", "0 0 V,1", "0 1 V"].map(with_2);
+                    readers.iter().for_each(|reader| each_read(emit, reader, &b));
+                    emit(format!("walk 0 0 1,{VERSION_2} {second}"));
+                    emit(format!("walk 0 0 {VERSION_2} {}", hex(&[smallest(VERSION_2), b].concat())));
+                }
             }
         }
     }
 }
 
-/// One good packet of each kind, with another behind it where it has a Length.
-fn good_packets() -> Vec<Vec<u8>> {
+/// A reader in whose list V is version 2.
+fn with_2(reader: &str) -> String {
+    reader.replace('V', &VERSION_2.to_string())
+}
+
+/// One good packet of each kind, with another behind it where it has a Length; the last two kinds have no version. Then a datagram of
+/// several, which are of this version and of version 1 in turn.
+fn good_packets(version: u32) -> Vec<Vec<u8>> {
     let (dst, src) = ([0x83, 0x94, 0xc8, 0xf0], [0xf0, 0x67]);
     let payload = |n: u8| (0..n).map(|i| 0x60 + i).collect::<Vec<u8>>();
     let sized = |mut b: Vec<u8>, n: u8| {
@@ -303,23 +338,28 @@ fn good_packets() -> Vec<Vec<u8>> {
         b
     };
     let token = [integer(3, 1), vec![0x70, 0x71, 0x72]].concat();
-    let initial = sized([long(0xc1, 1, &dst, &src), token].concat(), 24);
-    let zero_rtt = sized(long(0xd2, 1, &dst, &src), 21);
-    let handshake = sized(long(0xe3, 1, &dst, &src), 20);
+    let initial = |version| sized([long(0xc1, version, &dst, &src), token.clone()].concat(), 24);
+    let zero_rtt = |version| sized(long(0xd2, version, &dst, &src), 21);
+    let handshake = |version| sized(long(0xe3, version, &dst, &src), 20);
     vec![
-        [&initial[..], &handshake, &payload(22)].concat(),
-        [&zero_rtt[..], &payload(25)].concat(),
-        [&handshake[..], &[0x41]].concat(),
-        [long(0xf0, 1, &dst, &src), payload(20)].concat(),
+        [initial(version), handshake(version), payload(22)].concat(),
+        [zero_rtt(version), payload(25)].concat(),
+        [handshake(version), vec![0x41]].concat(),
+        [long(0xf0, version, &dst, &src), payload(20)].concat(),
         [vec![0x63], payload(28)].concat(),
         [long(0xca, 0, &dst, &src), payload(8)].concat(),
+        [zero_rtt(version), initial(1), handshake(version), zero_rtt(1), payload(28)].concat(),
     ]
 }
 
 fn prefixes(emit: &mut dyn FnMut(String)) {
-    for packet in good_packets() {
-        for n in 0..=packet.len() {
-            ["0 0 1", "4 0 1", "20 1 2,1"].iter().for_each(|reader| each_read(emit, reader, &packet[..n]));
+    let of_1 = ["0 0 1", "4 0 1", "20 1 2,1"].map(String::from);
+    let of_2 = ["0 0 V", "4 0 1,V", "20 1 V,1"].map(with_2);
+    for (version, readers) in [(1, of_1), (VERSION_2, of_2)] {
+        for packet in good_packets(version) {
+            for n in 0..=packet.len() {
+                readers.iter().for_each(|reader| each_read(emit, reader, &packet[..n]));
+            }
         }
     }
 }
@@ -343,11 +383,11 @@ fn cids(emit: &mut dyn FnMut(String)) {
 
 /// Every number of versions, with the packet's at every place and at none.
 fn versions(emit: &mut dyn FnMut(String)) {
-    for n in 0..=18 {
+    for (n, listed) in (0..=18).flat_map(|n| [7, VERSION_2].map(|listed| (n, listed))) {
         for at in 0..=n {
-            let list: Vec<String> = (0..n).map(|i| if i == at { "7".into() } else { (100 + i).to_string() }).collect();
+            let list: Vec<String> = (0..n).map(|i| if i == at { listed } else { 100 + i }.to_string()).collect();
             let list = if n == 0 { "-".into() } else { list.join(",") };
-            for version in [7, 0] {
+            for version in [listed, 0] {
                 each_read(emit, &format!("0 0 {list}"), &long(0xf0, version, &[1], &[2, 3]));
             }
         }

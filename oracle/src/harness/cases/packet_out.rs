@@ -1,5 +1,5 @@
 //! Cases of packets out: encode, the Length step, the mask step, and all of it.
-use super::super::rng::Rng;
+use super::super::rng::{Rng, VERSION_2};
 use super::super::words::hex;
 use super::{Made, begun, bytes};
 
@@ -9,6 +9,8 @@ pub const MADE: &[Made] = &[("henc", 10, henc), ("hlen", 6, hlen), ("hmask", 8, 
 pub const MOST: usize = 65_527;
 /// A Length that two bytes do not hold.
 const TOO_LONG: usize = 1 << 14;
+/// Version 2, as the words have a version.
+const TWO: u64 = VERSION_2 as u64;
 
 /// A header's words, and its length where it has one.
 struct Header {
@@ -56,7 +58,7 @@ fn number(r: &mut Rng) -> (u64, u64) {
 }
 
 fn version(r: &mut Rng) -> u64 {
-    if r.one_in(4) { r.bits() >> 32 } else { r.pick(&[1, 1, 1, 0, 0x6b33_43cf]) }
+    if r.one_in(4) { r.bits() >> 32 } else { r.pick(&[1, 1, 1, 0, TWO, TWO]) }
 }
 
 fn long(kind: &str, number: (u64, u64), version: u64, cids: [&[u8]; 2], token: Option<&[u8]>) -> Header {
@@ -207,7 +209,8 @@ pub fn exhaust(emit: &mut dyn FnMut(String)) {
 fn headers(emit: &mut dyn FnMut(String), n: usize) {
     let cid = vec![0x11; n];
     let cids = [&cid[..], &cid[..n.min(20) / 2]];
-    let mut all = vec![plain("retry", 1, cids), plain("retry", 0xffff_ffff, cids), plain("vneg", 0x2a, cids)];
+    let mut all: Vec<Header> = [1, TWO, 0xffff_ffff].map(|version| plain("retry", version, cids)).into();
+    all.push(plain("vneg", 0x2a, cids));
     for k in 0..6 {
         let w = 1u64 << (8 * k.clamp(1, 4));
         for value in [w / 3, w - 1, w] {
@@ -215,9 +218,11 @@ fn headers(emit: &mut dyn FnMut(String), n: usize) {
             for spin in 0..2 {
                 all.extend((0..2).map(|phase| short(spin, phase, number, &cid)));
             }
-            all.push(long("0rtt", number, 1, cids, None));
-            all.push(long("handshake", number, 0x6b33_43cf, cids, None));
-            all.extend([&[][..], &[0x77; 3], &[0x77; 70]].map(|token| long("initial", number, 1, cids, Some(token))));
+            for version in [1, TWO] {
+                all.extend(["0rtt", "handshake"].map(|kind| long(kind, number, version, cids, None)));
+                all.push(long("initial", number, version, cids, Some(&[0x77; 3])));
+            }
+            all.extend([&[][..], &[0x77; 70]].map(|token| long("initial", number, 1, cids, Some(token))));
         }
     }
     for header in all {
@@ -263,14 +268,12 @@ fn wholes(emit: &mut dyn FnMut(String)) {
     let cids = [&[1, 2, 3, 4][..], &[5, 6][..]];
     for k in 0..6 {
         let number = (k, 0x2a);
-        let headers = [
-            long("initial", number, 1, cids, Some(&[9; 5])),
-            long("0rtt", number, 1, cids, None),
-            long("handshake", number, 1, cids, None),
-            short(1, 0, number, cids[0]),
-            plain("retry", 1, cids),
-            plain("vneg", 0x4a, cids),
-        ];
+        let mut headers = vec![short(1, 0, number, cids[0]), plain("vneg", 0x4a, cids)];
+        for version in [1, TWO] {
+            headers.push(long("initial", number, version, cids, Some(&[9; 5])));
+            headers.extend(["0rtt", "handshake"].map(|kind| long(kind, number, version, cids, None)));
+            headers.push(plain("retry", version, cids));
+        }
         for header in headers {
             (0..24).for_each(|n| emit(format!("whole {} 0102040810 5a {}", header.words, bytes(n))));
         }

@@ -6,6 +6,7 @@ use super::super::*;
 use super::ends::{Ends, Said};
 use super::number::raw;
 use super::reading::{MAX_DATAGRAM, Reader, Taken, number, sampled};
+use super::version_2::{self, Types};
 use super::writing::{Refused, Step, Words, after_length};
 use crate::crypto::MaskKey;
 use crate::harness::differences::{FORM_BIT, SHORT_BUFFER, SIZE_65527, decided, settle};
@@ -77,18 +78,18 @@ pub(crate) fn gsplit(a: &mut Args, out: &mut String) -> Result<(), Bad> {
     if grease > 1 {
         out.push_str(&no);
     } else {
-        settle(out, reader.outside(&datagram, &no), || split(&reader, &datagram, at));
+        version_2::settle(out, reader.outside(&datagram, &no), |types| split(&reader, &datagram, at, types));
     }
     Ok(())
 }
 
 /// What the Rust splits off from the place on; past the end there is nothing to ask it.
-fn split(reader: &Reader, datagram: &[u8], at: usize) -> String {
+fn split(reader: &Reader, datagram: &[u8], at: usize, types: Types) -> String {
     let from = datagram.get(at..).unwrap_or_default();
     if from.is_empty() && !datagram.is_empty() {
         return SplitAnswer::none(0, at).line(from);
     }
-    let answer = match reader.split(from.into()) {
+    let answer = match reader.split(from.into(), types) {
         Err(PacketDecodeError::UnsupportedVersion { src_cid, dst_cid, version }) => {
             SplitAnswer { version, ..SplitAnswer::none(4, at) }.with_cids(from, dst_cid, src_cid)
         }
@@ -226,8 +227,8 @@ pub(crate) fn gheader(a: &mut Args, out: &mut String) -> Result<(), Bad> {
     let (spin, key_phase) = (spin == 1, phase == 1);
     let words = Words { kind: name.to_string(), version, spin, key_phase, random, number, dst, src, token };
     let paper = header_refused(&words, payload, b.len()).and_then(|(n, name)| decided(name, no(n)));
-    settle(out, paper, || {
-        let step = before(&words, payload);
+    version_2::settle(out, paper, |types| {
+        let step = before(&words, payload, types);
         let header = &after_length(&step)[..step.header_len];
         let fields = [0, step.has_length.into(), step.header_len as u64, step.number.unwrap_or(0) as u64];
         record(&fields, &[&[header, b.get(header.len()..).unwrap_or_default()].concat()])
@@ -236,8 +237,8 @@ pub(crate) fn gheader(a: &mut Args, out: &mut String) -> Result<(), Bad> {
 }
 
 /// A header before so many bytes.
-fn before(words: &Words, payload: usize) -> Step {
-    let (p, mut packet) = words.encode();
+fn before(words: &Words, payload: usize, types: Types) -> Step {
+    let (p, mut packet) = words.encode(types);
     packet.resize(p.header_len + payload, 0);
     let (number, has_length) = (p.pn.map(|pn| pn.0), p.pn.is_some_and(|pn| pn.1));
     Step { header_len: p.header_len, number, has_length, packet }
@@ -248,7 +249,7 @@ fn header_refused(words: &Words, payload: usize, room: usize) -> Option<Refused>
         return Some((14, SIZE_65527));
     }
     words.refused().or_else(|| {
-        let step = before(words, payload);
+        let step = before(words, payload, Types::OfTheRust);
         let fits = step.header_len <= room;
         step.refused().or_else(|| step.length_refused()).or((!fits).then_some((15, SHORT_BUFFER)))
     })

@@ -1,6 +1,7 @@
 //! Header decode, the split, the walk over a datagram and its dump, the sample's place, finish.
 use super::super::*;
 use super::number::raw;
+use super::version_2::{self, Types};
 use crate::MAX_CID_SIZE;
 use crate::crypto::{HeaderKey, MaskKey};
 use crate::harness::differences::{
@@ -75,21 +76,30 @@ impl Reader {
     }
 
     /// The header alone.
-    fn decode(&self, datagram: &[u8]) -> Result<PartialDecode, PacketDecodeError> {
+    fn decode(&self, datagram: &[u8], types: Types) -> Result<PartialDecode, PacketDecodeError> {
         let mut buf = io::Cursor::new(BytesMut::from(datagram));
+        types.back(buf.get_mut());
         let plain_header = ProtectedHeader::decode(&mut buf, &self.parser(), &self.versions, self.grease)?;
         Ok(PartialDecode { plain_header, buf })
     }
 
-    pub(super) fn split(&self, datagram: BytesMut) -> Result<(PartialDecode, Option<BytesMut>), PacketDecodeError> {
-        PartialDecode::new(datagram, &self.parser(), &self.versions, self.grease)
+    /// The first packet, and what is behind it.
+    pub(super) fn split(
+        &self,
+        mut datagram: BytesMut,
+        types: Types,
+    ) -> Result<(PartialDecode, Option<BytesMut>), PacketDecodeError> {
+        types.back(&mut datagram);
+        let (mut packet, rest) = PartialDecode::new(datagram, &self.parser(), &self.versions, self.grease)?;
+        types.forth(packet.buf.get_mut());
+        Ok((packet, rest))
     }
 }
 
 /// decode CIDLEN GREASE VERSIONS B -> ok HEADER | no N | no 4 VERSION DCID SCID
 pub(crate) fn decode(a: &mut Args, out: &mut String) -> Result<(), Bad> {
     let (reader, datagram) = (Reader::new(a)?, a.bytes()?);
-    settle(out, reader.outside(&datagram, "no 14"), || match reader.decode(&datagram) {
+    version_2::settle(out, reader.outside(&datagram, "no 14"), |types| match reader.decode(&datagram, types) {
         Err(e) => refusal(&e),
         Ok(packet) => format!("ok {}", header(&packet)),
     });
@@ -99,7 +109,8 @@ pub(crate) fn decode(a: &mut Args, out: &mut String) -> Result<(), Bad> {
 /// split CIDLEN GREASE VERSIONS B -> ok HEADER PACKET REST TOKEN | no N | no 4 VERSION DCID SCID
 pub(crate) fn split(a: &mut Args, out: &mut String) -> Result<(), Bad> {
     let (reader, datagram) = (Reader::new(a)?, a.bytes()?);
-    settle(out, reader.outside(&datagram, "no 14"), || match reader.split(datagram[..].into()) {
+    let paper = reader.outside(&datagram, "no 14");
+    version_2::settle(out, paper, |types| match reader.split(datagram[..].into(), types) {
         Err(e) => refusal(&e),
         Ok((packet, rest)) => {
             let rest = rest.map_or("none".into(), |rest| hex(&rest));
@@ -150,7 +161,7 @@ fn header(packet: &PartialDecode) -> String {
 /// walk CIDLEN GREASE VERSIONS B -> for each packet START LENGTH KIND OFFSET; then end TOTAL | refused START N
 pub(crate) fn walk(a: &mut Args, out: &mut String) -> Result<(), Bad> {
     let (reader, datagram) = (Reader::new(a)?, a.bytes()?);
-    settle(out, reader.outside(&datagram, "refused 0 14"), || walked(&reader, &datagram));
+    version_2::settle(out, reader.outside(&datagram, "refused 0 14"), |types| walked(&reader, &datagram, types));
     Ok(())
 }
 
@@ -159,18 +170,18 @@ pub(crate) fn dump(a: &mut Args, out: &mut String) -> Result<(), Bad> {
     let (room, reader, datagram) = (a.num()?, Reader { local: 0, grease: false, versions: vec![1] }, a.bytes()?);
     let mut text = String::new();
     settle(&mut text, reader.outside(&datagram, "refused 0 14;"), || {
-        walked(&reader, &datagram).replace("; ", ";") + ";"
+        walked(&reader, &datagram, Types::OfTheRust).replace("; ", ";") + ";"
     });
     let len = text.find(" #").unwrap_or(text.len());
     out.push_str(if len as u64 <= room { &text } else { "no 15" });
     Ok(())
 }
 
-fn walked(reader: &Reader, datagram: &[u8]) -> String {
+fn walked(reader: &Reader, datagram: &[u8], types: Types) -> String {
     let (mut said, mut at) = (String::new(), 0);
     let mut left = Some(BytesMut::from(datagram));
     while let Some(bytes) = left {
-        match reader.split(bytes) {
+        match reader.split(bytes, types) {
             Err(e) => return said + &format!("refused {at} {}", number(&e)),
             Ok((p, rest)) => {
                 said += &format!("{at} {} {} {}; ", p.len(), kind(&p.plain_header), p.buf.position());

@@ -2,6 +2,7 @@
 use super::super::*;
 use super::number::{cut_words, held, outside};
 use super::reading::{BEHIND_OFFSET, MAX_DATAGRAM};
+use super::version_2::{self, Types};
 use crate::MAX_CID_SIZE;
 use crate::crypto::{MaskKey, PacketKey, XorKey};
 use crate::harness::differences::{
@@ -83,11 +84,16 @@ impl Words {
         }
     }
 
-    pub(super) fn encode(&self) -> (PartialEncode, Vec<u8>) {
+    pub(super) fn encode(&self, types: Types) -> (PartialEncode, Vec<u8>) {
         let mut w = Vec::new();
         let p = self.header().encode(&mut w);
         assert_eq!((p.start, p.header_len), (0, w.len()));
+        types.forth(&mut w);
         (p, w)
+    }
+
+    fn len(&self) -> usize {
+        self.encode(Types::OfTheRust).1.len()
     }
 
     /// Where document 01 refuses to write the header, whatever the room.
@@ -97,7 +103,7 @@ impl Words {
             Some((14, CID_OVER_20))
         } else if let Some(outside) = number {
             Some((14, outside.name))
-        } else if self.encode().1.len() > MAX_DATAGRAM {
+        } else if self.len() > MAX_DATAGRAM {
             Some((14, SIZE_65527))
         } else {
             None
@@ -109,11 +115,11 @@ impl Words {
 pub(crate) fn henc(a: &mut Args, out: &mut String) -> Result<(), Bad> {
     let (words, b) = (Words::new(a)?, a.bytes()?);
     let refused = words.refused().or_else(|| {
-        let fits = words.encode().1.len() <= b.len();
+        let fits = words.len() <= b.len();
         if fits { None } else { Some((15, SHORT_BUFFER)) }
     });
-    settle(out, refused.and_then(|(n, name)| decided(name, format!("no {n} {}", hex(&b)))), || {
-        let (p, mut w) = words.encode();
+    version_2::settle(out, refused.and_then(|(n, name)| decided(name, format!("no {n} {}", hex(&b)))), |types| {
+        let (p, mut w) = words.encode(types);
         w.extend(b.get(p.header_len..).unwrap_or_default());
         let (k, has_length) = p.pn.map_or(("-".into(), false), |(k, has_length)| (k.to_string(), has_length));
         format!("ok {} {k} {} {}", p.header_len, u8::from(has_length), hex(&w))
@@ -238,13 +244,13 @@ pub(crate) fn hmask(a: &mut Args, out: &mut String) -> Result<(), Bad> {
 pub(crate) fn whole(a: &mut Args, out: &mut String) -> Result<(), Bad> {
     let (words, mask, [xor], payload) = (Words::new(a)?, a.array()?, a.array()?, a.bytes()?);
     let refused = words.refused().or_else(|| {
-        let (p, header) = words.encode();
+        let (p, header) = words.encode(Types::OfTheRust);
         let (number, has_length) = (p.pn.map(|pn| pn.0), p.pn.is_some_and(|pn| pn.1));
         let step = Step { header_len: p.header_len, number, has_length, packet: [header, payload.clone()].concat() };
         step.refused().or_else(|| step.length_refused()).or_else(|| step.mask_refused())
     });
-    settle(out, refused.and_then(|(n, name)| decided(name, format!("no {n}"))), || {
-        let (p, mut w) = words.encode();
+    version_2::settle(out, refused.and_then(|(n, name)| decided(name, format!("no {n}"))), |types| {
+        let (p, mut w) = words.encode(types);
         w.extend_from_slice(&payload);
         p.finish(&mut w, &MaskKey(mask), Some((0, &XorKey(xor))));
         format!("ok {}", hex(&w))

@@ -2,7 +2,7 @@ use mathlib.Core.Path.{refl, ap, _∙_}
 use denote.Ref.{now}
 use Rattle.packet.specs.Header.{Outcome, lengthIn}
 use Rattle.packet.specs.Said.{headerOf, outcomeOf}
-use Rattle.packet.specs.Split.{splitOn, splitAt}
+use Rattle.packet.specs.Split.{splitOn, splitWith}
 use Rattle.packet.proofs.Cases.{split-no, split-all, split-some, long-length}
 use borrow.Author.Needs.{needs}
 use Rattle.packet.proofs.partial.split.Statement.{statement}
@@ -48,7 +48,7 @@ no-packet-requires : tie.Need-no-packet-requires
 no-packet-requires c κs = search needs
 
 returns : tie.Need-returns
-unfolding splitAt headerOf outcomeOf lengthIn
+unfolding splitWith headerOf outcomeOf lengthIn
 returns c =
     let a = c .before .before .before .before .before .before .before .args in
     let d = c .before .before .before .before .decode in
@@ -57,7 +57,7 @@ returns c =
     ∙ ap (λ (h : Outcome). splitOn (h .said) (now (a .s)) h) (d .ensures)
 
 returns-2 : tie.Need-returns-2
-unfolding splitAt headerOf outcomeOf lengthIn
+unfolding splitWith headerOf outcomeOf lengthIn
 returns-2 c =
     let a = c .before .before .before .before .before .before .before .args in
     let d = c .before .before .before .before .decode in
@@ -66,7 +66,7 @@ returns-2 c =
     ∙ ap (λ (h : Outcome). splitOn (h .said) (now (a .s)) h) (d .ensures)
 
 returns-3 : tie.Need-returns-3
-unfolding splitAt headerOf outcomeOf lengthIn
+unfolding splitWith headerOf outcomeOf lengthIn
 returns-3 c =
     let a = c .before .before .before .before .before .before .args in
     let d = c .before .before .before .decode in
@@ -75,7 +75,7 @@ returns-3 c =
     ∙ ap (λ (h : Outcome). splitOn (h .said) (now (a .s)) h) (d .ensures)
 
 returns-4 : tie.Need-returns-4
-unfolding splitAt headerOf outcomeOf lengthIn
+unfolding splitWith headerOf outcomeOf lengthIn
 returns-4 c =
     let a = c .before .before .before .before .before .before .args in
     let d = c .before .before .before .decode in
@@ -84,7 +84,7 @@ returns-4 c =
     ∙ ap (λ (h : Outcome). splitOn (h .said) (now (a .s)) h) (d .ensures)
 
 returns-5 : tie.Need-returns-5
-unfolding splitAt headerOf outcomeOf lengthIn
+unfolding splitWith headerOf outcomeOf lengthIn
 returns-5 c =
     let a = c .before .before .before .before .before .before .args in
     let d = c .before .before .before .decode in
@@ -93,7 +93,7 @@ returns-5 c =
     ∙ ap (λ (h : Outcome). splitOn (h .said) (now (a .s)) h) (d .ensures)
 
 returns-6 : tie.Need-returns-6
-unfolding splitAt headerOf outcomeOf lengthIn
+unfolding splitWith headerOf outcomeOf lengthIn
 returns-6 c =
     let a = c .before .before .before .before .before .before .args in
     let d = c .before .before .before .decode in
