@@ -1,7 +1,7 @@
 //! Links libFuzzer's runtime without a main, of Debian's package.
 use std::process::{Command, exit};
 
-const PACKAGE: &str = "libclang-rt-14-dev";
+const PACKAGE: &str = "libclang-rt-14-dev:amd64";
 
 fn main() {
     let said = Command::new("dpkg").args(["-L", PACKAGE]).output().map(|said| said.stdout).unwrap_or_default();
@@ -13,4 +13,5 @@ fn main() {
     println!("cargo::rerun-if-changed={archive}");
     println!("cargo::rustc-link-arg={archive}");
     println!("cargo::rustc-link-arg=-lstdc++");
+    println!("cargo::rustc-link-arg=-lm");
 }
