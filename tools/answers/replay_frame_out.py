@@ -20,12 +20,16 @@ REFUSED = {
     'ack-list': ['ack'],
     'size-65527': ['crypto', 'token', 'datagram', 'close', 'appclose', 'ack'],
 }
+# a close by the size of its error code: the Rust counts two bytes for it, and where that tells there is a mark
+CODE = {n: f'close, code of {size(n)}' for n in (1, 2, 4, 8)}
+COUNTED = list(CODE.values()) + [f'{CODE[n]} # close-code' for n in (1, 4, 8)]
+COUNTED += [f'{CODE[n]} no 14 # close-code' for n in (4, 8)] + [f'{CODE[1]} no 15 # close-code']
 WHAT = ['type', 'id', 'code']
 SIZED = ['token', 'datagram', 'datagram, length']
 
 CLASSES = {
     'fenc': [kind for frame in FRAMES for kind in KINDS.get(frame, [frame])] + [f'{frame} no 15 # short-buffer' for frame in FRAMES]
-    + [f'{frame} no 14 # {mark}' for mark, frames in REFUSED.items() for frame in frames],
+    + [f'{frame} no 14 # {mark}' for mark, frames in REFUSED.items() for frame in frames] + COUNTED,
     'fdec': [f'{what}, {size(n)}' for what in WHAT for n in (1, 2, 4, 8)] + [f'{what} no 10' for what in WHAT],
     'fsize': SIZED + [f'{name} no 14 # size-65527' for name in SIZED],
     'bounds': ['bounds'],
@@ -71,9 +75,23 @@ def named(name, kind):
     return classes
 
 
+def counted(q, a, mark):
+    """The class of a close by the size of its error code."""
+    said = CODE[next(n for n in CODE if int(q[3]) < 1 << 8 * n - 2)] + (f' no {a[1]}' if a[0] == 'no' else '')
+    return f'{said} # {mark}' if mark else said
+
+
+def fenc(question, answer, mark):
+    """The classes of an encoder's answer: one, and of a close that is written or marked that of its error code."""
+    q, a = question.split(' '), answer.split(' ')
+    if q[1] != 'close' or a[0] == 'no' and mark != 'close-code':
+        return named(lambda q: q[1], written)(question, answer, mark)
+    return [counted(q, a, mark)] + ([written(q, a)] if a[0] == 'ok' else [])
+
+
 DETAIL = {'bounds': lambda q, a: 'bounds'}
 MANY = {
-    'fenc': named(lambda q: q[1], written),
+    'fenc': fenc,
     'fdec': named(lambda q: WHAT[int(q[1])], lambda q, a: f'{WHAT[int(q[1])]}, {size(int(a[2]) - int(q[2]))}'),
     'fsize': named(lambda q: SIZED[int(q[1])], lambda q, a: SIZED[int(q[1])]),
 }

@@ -4,7 +4,7 @@ use mathlib.Core.List.{List, [], _∷_}
 use mathlib.Core.Bool.{Bool, true, false}
 use Prim.Native.Nat.{ℕ, zero, suc, _-_, _≤_, _<_, _^_}
 use native.Mathlib.Omega.{arith}
-use lib.ListN.{length, take, length-take}
+use lib.ListN.{length, take, getD, length-take}
 use lib.Dec.{ltb, leb}
 use borrow.Author.Tests.{ltb-true, leb-true, lt-ltb, le-ltb, le-leb, lt-leb}
 use Rattle.coding.specs.Words.{if_then_else_, Answer, no, ok}
@@ -84,42 +84,38 @@ module _ (fixed max : ℕ) (reason : List ℕ) where
       go true false a b h = let z : _≡_ {A = ℕ} 0 1 = cc in absurd (omega arith)
       go false u a b h = let z : _≡_ {A = ℕ} 0 1 = cc in absurd (omega arith)
 
--- ---- the closes
+-- ---- the closes, by their integers
 
-module _ (reason : List ℕ) (max : ℕ) where
-  pub close-not : (c : Closing) → reasonCut (fixedFields c (length reason)) max reason ≡ no 14 → closeOut c reason max ≡ no 14
-  unfolding closeOut closeWith
-  close-not c e = rw e
+abbrev pub closeVals : Closing → ℕ → List ℕ
+closeVals (connection code ty) n = 0x1c ∷ code ∷ wordNumber ty ∷ n ∷ []
+closeVals (application code) n = 0x1d ∷ code ∷ n ∷ []
 
-  -- an integer past its limit is refused, whatever is left of the reason
-  pub type-past : (code : ℕ) (ty : Word) → 2 ^ 62 ≤ wordNumber ty → closeOut (connection code ty) reason max ≡ no 14
+pub close-vals : (c : Closing) (d : List ℕ) → closeWith c (ok d) ≡ varsOut (closeVals c (length d)) d
+unfolding closeWith
+close-vals (connection code ty) d = connection-vals code ty d
+close-vals (application code) d = application-vals code d
+
+module _ (reason : List ℕ) (max : ℕ) (c : Closing) where
+  pub close-not : {fixed : ℕ} → reasonCut fixed max reason ≡ no 14 → fixed ≡ fixedFields c (length reason) → closeOut c reason max ≡ no 14
   unfolding closeOut closeWith
-  type-past code ty h =
-      cut-all (fixedFields (connection code ty) (length reason)) max reason (λ (w : Answer (List ℕ)). closeWith (connection code ty) w ≡ no 14) refl
+  close-not e sum = rw (← sum, e)
+
+  -- one past its limit is refused, whatever is left of the reason
+  pub close-past : (i : ℕ) → ((n : ℕ) → (i < length (closeVals c n)) × (2 ^ 62 ≤ getD (closeVals c n) i 0)) → closeOut c reason max ≡ no 14
+  unfolding closeOut closeWith
+  close-past i h =
+      cut-all (fixedFields c (length reason)) max reason (λ (w : Answer (List ℕ)). closeWith c w ≡ no 14) refl
       (λ k. let d = take k reason in
-      connection-vals code ty d ∙ out-past (0x1c ∷ code ∷ wordNumber ty ∷ length d ∷ []) d (below-not (0x1c ∷ code ∷ wordNumber ty ∷ length d ∷ []) 2 (omega arith) h))
-
-  pub code-past : (code : ℕ) → 2 ^ 62 ≤ code → closeOut (application code) reason max ≡ no 14
-  unfolding closeOut closeWith
-  code-past code h =
-      cut-all (fixedFields (application code) (length reason)) max reason (λ (w : Answer (List ℕ)). closeWith (application code) w ≡ no 14) refl
-      (λ k. let d = take k reason in
-      application-vals code d ∙ out-past (0x1d ∷ code ∷ length d ∷ []) d (below-not (0x1d ∷ code ∷ length d ∷ []) 1 (omega arith) h))
+      let at = h (length d) in
+      close-vals c d ∙ out-past (closeVals c (length d)) d (below-not (closeVals c (length d)) i (at .0) (at .1)))
 
   -- what is written of a reason of which n bytes are kept
-  module _ (n : ℕ) (inside : n ≤ length reason) where
-    kept-long : length (take n reason) ≡ n
-    kept-long = simp length-take (omega arith)
-
-    pub connection-kept : (code : ℕ) (ty : Word) → reasonCut (fixedFields (connection code ty) (length reason)) max reason ≡ ok (take n reason)
-        → closeOut (connection code ty) reason max ≡ varsOut (0x1c ∷ code ∷ wordNumber ty ∷ n ∷ []) (take n reason)
-    unfolding closeOut closeWith
-    connection-kept code ty e = rw e (connection-vals code ty (take n reason) ∙ rw kept-long)
-
-    pub application-kept : (code : ℕ) → reasonCut (fixedFields (application code) (length reason)) max reason ≡ ok (take n reason)
-        → closeOut (application code) reason max ≡ varsOut (0x1d ∷ code ∷ n ∷ []) (take n reason)
-    unfolding closeOut closeWith
-    application-kept code e = rw e (application-vals code (take n reason) ∙ rw kept-long)
+  pub close-kept : {fixed n : ℕ} → (reasonCut fixed max reason ≡ ok (take n reason)) × (n ≤ length reason) → fixed ≡ fixedFields c (length reason)
+      → closeOut c reason max ≡ varsOut (closeVals c n) (take n reason)
+  unfolding closeOut
+  close-kept {n = n} e sum =
+      let long : length (take n reason) ≡ n = simp length-take (omega (arith, e .1)) in
+      rw (← sum, e .0) (close-vals c (take n reason) ∙ rw long)
 
 -- what was written is the frame of what is left of the reason
 pub record Cut (c : Closing) (reason : List ℕ) (max : ℕ) (bs : List ℕ) : Type 0 where

@@ -1,22 +1,24 @@
--- A close is no longer than its max; the transport's with an error code of 16,384 or more passes it by at most six bytes.
-use mathlib.Core.Path.{_≡_, sym, _∙_}
-use mathlib.Core.List.{List, [], _∷_}
+-- A close is never longer than its max, and is refused for its max exactly where the fields beside the reason take more.
+use mathlib.Core.Path.{_≡_, refl, sym, _∙_}
+use mathlib.Core.Logic.{_↔_}
+use mathlib.Core.List.{List, [], _∷_, _++_}
 use mathlib.Core.Bool.{Bool, true, false}
 use Prim.Native.Nat.{ℕ, zero, suc, _+_, _-_, _*_, _≤_, _<_, _^_}
 use native.Mathlib.Nat.{pow-le-pow-right}
 use native.Mathlib.Omega.{arith}
 use lib.ListN.{length, take, length-append, length-take}
 use lib.Dec.{ltb}
-use borrow.Author.Tests.{lt-ltb}
-use Rattle.coding.specs.Words.{if_then_else_, ok}
+use borrow.Author.Tests.{ltb-true, ltb-false, lt-ltb}
+use Rattle.coding.specs.Words.{if_then_else_, no, ok}
 use Rattle.coding.specs.Varint.{varTag, varSize}
-use Rattle.coding.proofs.Laws.{fits-tag, length-var, size-le}
+use Rattle.coding.proofs.Laws.{fits-tag, length-var, size-le, size-pos}
+use Rattle.frame.specs.Table.{table}
 use Rattle.row_out.specs.Writing.{Word, wordNumber}
-use Rattle.row_out.specs.Limits.{varsBytes}
-use Rattle.row_out.proofs.Laws.{below-at, out-seen}
-use Rattle.frame_out.specs.Closes.{connection, application, fixedFields, closeWith, closeOut}
-use Rattle.frame_out.proofs.Vals.{connection-vals, application-vals}
-use Rattle.frame_out.proofs.Cuts.{close-seen}
+use Rattle.row_out.specs.Limits.{below62, varsBytes}
+use Rattle.row_out.specs.Bounds.{boundOf}
+use Rattle.row_out.proofs.Laws.{cons-below, below-at, Held, out-ok, out-seen}
+use Rattle.frame_out.specs.Closes.{Closing, connection, application, isConnection, fixedFields, closeOut}
+use Rattle.frame_out.proofs.Cuts.{cut-short, cut-some, closeVals, close-vals, close-not, close-seen}
 
 -- ---- a smaller integer is written in no more bytes
 
@@ -51,38 +53,113 @@ size-mono : (x y : ℕ) → x ≤ y → y < 2 ^ 62 → varSize x ≤ varSize y
 unfolding varSize
 size-mono x y h k = size-least x (varTag y) (omega (arith, fits-tag y k))
 
+-- ---- the sum
+
+type-sizes : (varSize 0x1c ≡ 1) × (varSize 0x1d ≡ 1)
+unfolding varSize varTag if_then_else_
+type-sizes = (refl, refl)
+
+-- it is what the integers of a close take, with the length of a reason of n bytes
+pub fixed-bytes : (c : Closing) (n : ℕ) → fixedFields c n ≡ length (varsBytes (closeVals c n))
+unfolding fixedFields varsBytes
+fixed-bytes (connection code ty) n = simp (length-append, length-var) (omega (arith, type-sizes))
+fixed-bytes (application code) n = simp (length-append, length-var) (omega (arith, type-sizes))
+
+-- with integers below 2^62 it is no more than the bound of the close's row
+pub bound-enough : (c : Closing) (n : ℕ) → below62 (closeVals c n) ≡ true → fixedFields c n ≤ boundOf table (if isConnection c then 0x1c else 0x1d)
+unfolding fixedFields boundOf table if_then_else_
+bound-enough (connection code ty) n b =
+    let ys : List ℕ = 0x1c ∷ code ∷ wordNumber ty ∷ n ∷ [] in
+    let a = size-le code (below-at ys 1 b (omega arith)) in
+    let t = size-le (wordNumber ty) (below-at ys 2 b (omega arith)) in
+    omega (arith, type-sizes, a, t, size-le n (below-at ys 3 b (omega arith)))
+bound-enough (application code) n b =
+    let ys : List ℕ = 0x1d ∷ code ∷ n ∷ [] in
+    omega (arith, type-sizes, size-le code (below-at ys 1 b (omega arith)), size-le n (below-at ys 2 b (omega arith)))
+
+-- a shorter reason's is no more
+fixed-mono : (c : Closing) (m n : ℕ) → m ≤ n → n < 2 ^ 62 → fixedFields c m ≤ fixedFields c n
+unfolding fixedFields
+fixed-mono (connection code ty) m n h k = omega (arith, size-mono m n h k)
+fixed-mono (application code) m n h k = omega (arith, size-mono m n h k)
+
+last-small : (c : Closing) (n : ℕ) → below62 (closeVals c n) ≡ true → n < 2 ^ 62
+last-small (connection code ty) n b = below-at (0x1c ∷ code ∷ wordNumber ty ∷ n ∷ []) 3 b (omega arith)
+last-small (application code) n b = below-at (0x1d ∷ code ∷ n ∷ []) 2 b (omega arith)
+
+one-below : (x : ℕ) → x < 2 ^ 62 → below62 (x ∷ []) ≡ true
+unfolding below62
+one-below x h = cons-below x [] h refl
+
+vals-mono : (c : Closing) (m n : ℕ) → m ≤ n → below62 (closeVals c n) ≡ true → below62 (closeVals c m) ≡ true
+vals-mono (connection code ty) m n h b =
+    let ys : List ℕ = 0x1c ∷ code ∷ wordNumber ty ∷ n ∷ [] in
+    let last = one-below m (omega (arith, below-at ys 3 b (omega arith))) in
+    let two = cons-below (wordNumber ty) (m ∷ []) (below-at ys 2 b (omega arith)) last in
+    let three = cons-below code (wordNumber ty ∷ m ∷ []) (below-at ys 1 b (omega arith)) two in
+    cons-below 0x1c (code ∷ wordNumber ty ∷ m ∷ []) (omega arith) three
+vals-mono (application code) m n h b =
+    let ys : List ℕ = 0x1d ∷ code ∷ n ∷ [] in
+    let last = one-below m (omega (arith, below-at ys 2 b (omega arith))) in
+    cons-below 0x1d (code ∷ m ∷ []) (omega arith) (cons-below code (m ∷ []) (below-at ys 1 b (omega arith)) last)
+
 -- ---- the closes
 
-module _ (reason : List ℕ) (max : ℕ) (bs : List ℕ) where
-  -- the error code's bytes past two may pass it
-  connection-long : (code : ℕ) (ty : Word) → closeOut (connection code ty) reason max ≡ ok bs → (length bs + 2 ≤ max + varSize code) × (code < 2 ^ 62)
-  unfolding closeWith fixedFields varsBytes
-  connection-long code ty e =
-      let c = close-seen (connection code ty) reason max bs e in
-      let left : ℕ = max - (3 + varSize (wordNumber ty) + varSize (length reason)) in
-      let d : List ℕ = take left reason in
-      let ys : List ℕ = 0x1c ∷ code ∷ wordNumber ty ∷ length d ∷ [] in
-      let s = out-seen ys d bs (sym (connection-vals code ty d) ∙ c .frame) in
-      let all : length bs ≡ varSize 0x1c + varSize code + varSize (wordNumber ty) + varSize (length d) + length d
-      = rw (← s .same) (simp (length-append, length-var) (omega arith)) in
-      let n : length d ≤ length reason = omega (arith, length-take left reason) in
-      let m = size-mono (length d) (length reason) n (c .small) in
-      (omega (arith, c .fits, size-least 0x1c 0 (omega arith), length-take left reason), below-at ys 1 (s .small) (omega arith))
+module _ (c : Closing) (reason : List ℕ) (max : ℕ) where
+  abbrev fixed : ℕ
+  fixed = fixedFields c (length reason)
 
-  pub connection-room : (code : ℕ) (ty : Word) → code < 2 ^ 14 → closeOut (connection code ty) reason max ≡ ok bs → length bs ≤ max
-  connection-room code ty h e = omega (arith, connection-long code ty e, size-least code 1 h)
+  -- what is left of the reason
+  abbrev left : List ℕ
+  left = take (max - fixed) reason
 
-  pub connection-over : (code : ℕ) (ty : Word) → closeOut (connection code ty) reason max ≡ ok bs → length bs ≤ max + 6
-  connection-over code ty e = let l = connection-long code ty e in omega (arith, l .0, size-le code (l .1))
+  left-long : length left ≤ length reason
+  left-long = omega (arith, length-take (max - fixed) reason)
 
-  pub application-room : (code : ℕ) → closeOut (application code) reason max ≡ ok bs → length bs ≤ max
-  unfolding closeWith fixedFields varsBytes
-  application-room code e =
-      let c = close-seen (application code) reason max bs e in
-      let left : ℕ = max - (1 + varSize code + varSize (length reason)) in
-      let d : List ℕ = take left reason in
-      let s = out-seen (0x1d ∷ code ∷ length d ∷ []) d bs (sym (application-vals code d) ∙ c .frame) in
-      let all : length bs ≡ varSize 0x1d + varSize code + varSize (length d) + length d
-      = rw (← s .same) (simp (length-append, length-var) (omega arith)) in
-      let n : length d ≤ length reason = omega (arith, length-take left reason) in
-      omega (arith, c .fits, size-least 0x1d 0 (omega arith), size-mono (length d) (length reason) n (c .small), length-take left reason)
+  -- the frame is never longer than max
+  pub close-room : (bs : List ℕ) → closeOut c reason max ≡ ok bs → length bs ≤ max
+  close-room bs e =
+      let k = close-seen c reason max bs e in
+      let s = out-seen (closeVals c (length left)) left bs (sym (close-vals c left) ∙ k .frame) in
+      let all : length bs ≡ fixedFields c (length left) + length left
+      = rw (← s .same, length-append, ← fixed-bytes c (length left)) refl in
+      omega (arith, k .fits, fixed-mono c (length left) (length reason) left-long (k .small), length-take (max - fixed) reason)
+
+  -- where the integers are below 2^62 and the frame has at most 65,527 bytes, it is refused exactly when max is below the sum
+  module _ (small : below62 (closeVals c (length reason)) ≡ true) (short : fixedFields c (length left) + length left ≤ 65527) where
+    reason-small : length reason < 2 ^ 62
+    reason-small = last-small c (length reason) small
+
+    written : fixed ≤ max → closeOut c reason max ≡ ok (varsBytes (closeVals c (length left)) ++ left)
+    unfolding closeOut
+    written h =
+        let b = vals-mono c (length left) (length reason) left-long small in
+        let held : Held (closeVals c (length left)) left (fixedFields c (length left) + length left)
+        = record { small = b; short = short; long = rw (fixed-bytes c (length left)) refl } in
+        rw (cut-some fixed max reason reason-small h) (close-vals c left ∙ out-ok (closeVals c (length left)) left _ held)
+
+    pub close-exactly : (closeOut c reason max ≡ no 14) ↔ (max < fixed)
+    close-exactly = (go (ltb max fixed) refl, λ h. close-not reason max c (cut-short fixed max reason reason-small h) refl)
+      where
+        go : (t : Bool) → ltb max fixed ≡ t → closeOut c reason max ≡ no 14 → max < fixed
+        go true a e = ltb-true max fixed a
+        go false a e =
+            let w = written (ltb-false max fixed a) in
+            let z : _≡_ {A = ℕ} 0 1 = cc in
+            absurd (omega arith)
+
+-- ---- than before: document 01 took two bytes off for the transport's error code, as the Rust does
+
+abbrev formerFields : Word → ℕ → ℕ
+formerFields ty n = 3 + varSize (wordNumber ty) + varSize n
+
+pub code-counted : (code : ℕ) (ty : Word) (n : ℕ) → fixedFields (connection code ty) n + 2 ≡ formerFields ty n + varSize code
+unfolding fixedFields
+code-counted code ty n = omega arith
+
+-- with a code below 64 one byte more is kept of a reason that was cut
+pub one-byte-more : (code : ℕ) (ty : Word) (reason : List ℕ) (max : ℕ) → code < 64
+    → formerFields ty (length reason) ≤ max → max - formerFields ty (length reason) < length reason
+    → length (take (max - fixedFields (connection code ty) (length reason)) reason) ≡ length (take (max - formerFields ty (length reason)) reason) + 1
+one-byte-more code ty reason max h fits cut =
+    simp length-take (omega (arith, code-counted code ty (length reason), size-least code 0 h, size-pos code))

@@ -1,4 +1,4 @@
--- The closes, held to max bytes as the Rust counts them: document 01, "Encoders"; RFC 9000, 19.19.
+-- The closes, held to max bytes: document 01, "Encoders"; document 02, request 11; RFC 9000, 19.19.
 use Prim.Native.Nat.{ℕ, _+_, _-_}
 use mathlib.Core.List.{List, [], _∷_}
 use mathlib.Core.Bool.{Bool, true, false}
@@ -19,10 +19,10 @@ abbrev pub isConnection : Closing → Bool
 isConnection (connection code ty) = true
 isConnection (application code) = false
 
--- what is taken off max for the fields beside a reason of n bytes: the type, two bytes for the transport's error code, the other
--- integers by their sizes, and the size of the whole reason's length
+-- what is taken off max for the fields beside a reason of n bytes: the type, each integer by its size, the whole reason's length
+-- among them
 unfoldable pub fixedFields : Closing → ℕ → ℕ
-fixedFields (connection code ty) n = 3 + varSize (wordNumber ty) + varSize n
+fixedFields (connection code ty) n = 1 + varSize code + varSize (wordNumber ty) + varSize n
 fixedFields (application code) n = 1 + varSize code + varSize n
 
 -- the reason is cut to what is left; 14 where the fixed fields are more than max, or the reason's length is no integer

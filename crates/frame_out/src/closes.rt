@@ -47,7 +47,7 @@ impl CloseKind {
 
 // How much of a reason max_len leaves, beside the fields of `fixed` bytes and the size of the whole reason's length; or 14.
 fn kept(fixed: usize, reason: &[u8], max_len: usize) -> Sized
-    requires { ⌜ fixed ≤ 11 ⌝ }
+    requires { ⌜ fixed ≤ 17 ⌝ }
     ensures { λ r. ⌜ sizedOf r ≡ lengthOf (reasonCut (fixed + varSize (length (now (reason .entry)))) «max_len» (now (reason .entry))) ⌝ }
 {
     let len = reason.len();
@@ -74,7 +74,7 @@ fn number_of(frame_type: TypeRead) -> u64
     }
 }
 
-// As the Rust does, two bytes are allowed for the error code: with one of 16,384 or more the frame can pass max_len.
+// The error code counts by its size, so that no frame is longer than max_len; the Rust counts two bytes for it.
 pub fn connection_close(
     error_code: u64,
     frame_type: TypeRead,
@@ -84,11 +84,14 @@ pub fn connection_close(
 ) -> Wrote
     ensures { λ r. ⌜ Written (closeOut (connection «error_code» (typeWord «frame_type»)) (now (reason .entry)) «max_len») (now (out .entry)) (wroteOf r) (now (out .exit)) ⌝ }
 {
+    let Sized::Bytes(m) = VarInt(error_code).size() else {
+        return Wrote::Refused(Refusal::Argument);
+    };
     let ty = number_of(frame_type);
     let Sized::Bytes(n) = VarInt(ty).size() else {
         return Wrote::Refused(Refusal::Argument);
     };
-    let Sized::Bytes(len) = kept(3 + n, reason, max_len) else {
+    let Sized::Bytes(len) = kept(1 + m + n, reason, max_len) else {
         return Wrote::Refused(Refusal::Argument);
     };
     let vals = [FrameType::CONNECTION_CLOSE.0, error_code, ty, len as u64];

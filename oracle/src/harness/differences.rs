@@ -1,4 +1,4 @@
-//! Where document 01, or for version 2 RFC 9369, decides and the Rust panics or says otherwise: the names are headings of
+//! Where document 01, or a request of document 02, decides and the Rust panics or says otherwise: the names are headings of
 //! docs/DIFFERENCES.md.
 use std::panic::{AssertUnwindSafe, catch_unwind};
 
@@ -28,6 +28,7 @@ pub const ACK_LIST: &str = "ack-list";
 pub const NCID_OUT: &str = "ncid-out";
 pub const STREAM_END: &str = "stream-end";
 pub const MAX_LEN: &str = "max-len";
+pub const CLOSE_CODE: &str = "close-code";
 pub const VERSION_2: &str = "version-2";
 
 /// What the paper answers, and the difference's name.
@@ -50,5 +51,25 @@ pub fn settle(out: &mut String, paper: Option<Decided>, rust: impl FnOnce() -> S
     match catch_unwind(AssertUnwindSafe(rust)) {
         Ok(same) if same == answer => *out += &format!("NO DIFFERENCE SHOWN {name}"),
         _ => *out += &format!("{answer} # {name}"),
+    }
+}
+
+/// As `settle`; where document 01 decides nothing, a request does: the answer is the Rust's to a changed question, with
+/// the mark `name` where its answer to the question itself is another, or a panic.
+pub fn settle_changed(
+    out: &mut String,
+    paper: Option<Decided>,
+    name: &'static str,
+    changed: impl FnOnce() -> String,
+    rust: impl FnOnce() -> String,
+) {
+    if paper.is_some() {
+        return settle(out, paper, rust);
+    }
+    let answer = changed();
+    *out += &answer;
+    match catch_unwind(AssertUnwindSafe(rust)) {
+        Ok(same) if same == answer => {}
+        _ => *out += &format!(" # {name}"),
     }
 }

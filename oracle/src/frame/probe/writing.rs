@@ -3,10 +3,12 @@ use super::super::*;
 use crate::TransportErrorCode;
 use crate::coding::Codec;
 use crate::harness::differences::{
-    ACK_LIST, CID_OVER_20, Decided, MAX_LEN, NCID_OUT, SIZE_65527, STREAM_END, VARINT_62, decided, settle,
+    ACK_LIST, CID_OVER_20, CLOSE_CODE, Decided, MAX_LEN, NCID_OUT, SIZE_65527, STREAM_END, VARINT_62, decided, settle,
+    settle_changed,
 };
 use crate::harness::leaf::{cursor, no_room, written};
 use crate::harness::words::{Args, Bad, hex};
+use std::panic::{AssertUnwindSafe, catch_unwind};
 
 const END: u64 = 1 << 62;
 const MAX_DATAGRAM: usize = 65_527;
@@ -14,15 +16,17 @@ const MAX_DATAGRAM: usize = 65_527;
 /// Writes into any output.
 type Writer = dyn Fn(&mut dyn BufMut);
 
-/// What is written; and the difference's name where document 01 refuses the arguments with 14.
+/// What is written; and the difference's name where the documents refuse the arguments with 14.
 struct Encoder {
     write: Box<Writer>,
+    /// What the Rust writes where it is asked as we are, if `write` asks it something else.
+    own: Option<Box<Writer>>,
     outside: Option<&'static str>,
 }
 
 impl Encoder {
     fn new(outside: Option<&'static str>, write: impl Fn(&mut dyn BufMut) + 'static) -> Self {
-        Self { write: Box::new(write), outside }
+        Self { write: Box::new(write), own: None, outside }
     }
 
     /// What is written where there is room.
@@ -32,7 +36,7 @@ impl Encoder {
         w
     }
 
-    /// What document 01 decides: 14 for the arguments or for a frame too long, 15 for a buffer too short.
+    /// What the documents decide: 14 for the arguments or for a frame too long, 15 for a buffer too short.
     fn paper(&self, lent: &[u8]) -> Option<Decided> {
         if let Some(name) = self.outside {
             return decided(name, format!("no 14 {}", hex(lent)));
@@ -40,7 +44,13 @@ impl Encoder {
         if self.whole().len() > MAX_DATAGRAM {
             return decided(SIZE_65527, format!("no 14 {}", hex(lent)));
         }
-        no_room(lent, &*self.write)
+        let paper = no_room(lent, &*self.write)?;
+        Some(Decided { name: if self.own_fits(lent) { CLOSE_CODE } else { paper.name }, ..paper })
+    }
+
+    /// Whether what the Rust writes where it is asked as we are has room, though what is to be written has not.
+    fn own_fits(&self, lent: &[u8]) -> bool {
+        self.own.as_ref().is_some_and(|own| catch_unwind(AssertUnwindSafe(|| written(lent, &**own))).is_ok())
     }
 }
 
@@ -48,7 +58,11 @@ impl Encoder {
 pub(crate) fn fenc(a: &mut Args, out: &mut String) -> Result<(), Bad> {
     let encoder = encoder(a)?;
     let lent = a.bytes()?;
-    settle(out, encoder.paper(&lent), || written(&lent, &*encoder.write));
+    let (paper, rust) = (encoder.paper(&lent), || written(&lent, &*encoder.write));
+    match &encoder.own {
+        Some(own) => settle_changed(out, paper, CLOSE_CODE, rust, || written(&lent, &**own)),
+        None => settle(out, paper, rust),
+    }
     Ok(())
 }
 
@@ -162,7 +176,8 @@ fn code(x: u64) -> TransportErrorCode {
     TransportErrorCode::decode(&mut &b[..]).unwrap()
 }
 
-/// VIA CODE MAXLEN TYPE|- REASON; VIA is 1 through Close
+/// VIA CODE MAXLEN TYPE|- REASON; VIA is 1 through Close. Request 11 counts the code by its size where the Rust counts
+/// two: the Rust is asked with a max_len that is more or less by as much.
 fn close(a: &mut Args) -> Result<Encoder, Bad> {
     let (via, x, max_len) = (a.flag()?, a.num()?, a.num()? as usize);
     let frame_type = match a.list()?[..] {
@@ -172,12 +187,18 @@ fn close(a: &mut Args) -> Result<Encoder, Bad> {
     };
     let reason: Bytes = a.bytes()?.into();
     let ty = frame_type.map_or(0, |ty| ty.0);
-    let fixed = 3 + size(ty) + size(reason.len() as u64);
-    let outside = integers(&[x, ty]).or((max_len < fixed).then_some(MAX_LEN));
-    Ok(Encoder::new(outside, move |mut w| {
-        let close = ConnectionClose { error_code: code(x), frame_type, reason: reason.clone() };
-        if via { Close::from(close).encode(&mut w, max_len) } else { close.encode(&mut w, max_len) }
-    }))
+    let others = 1 + size(ty) + size(reason.len() as u64);
+    let too_small = if max_len < others + 2 { MAX_LEN } else { CLOSE_CODE };
+    let outside = integers(&[x, ty]).or((max_len < others + size(x)).then_some(too_small));
+    let asked = move |max_len: usize| {
+        let reason = reason.clone();
+        move |mut w: &mut dyn BufMut| {
+            let close = ConnectionClose { error_code: code(x), frame_type, reason: reason.clone() };
+            if via { Close::from(close).encode(&mut w, max_len) } else { close.encode(&mut w, max_len) }
+        }
+    };
+    let changed = max_len.saturating_add(2).saturating_sub(size(x));
+    Ok(Encoder { own: Some(Box::new(asked(max_len))), ..Encoder::new(outside, asked(changed)) })
 }
 
 fn appclose(via: bool, x: u64, max_len: usize, reason: Bytes) -> Encoder {

@@ -140,8 +140,9 @@ fn newcid(r: &mut Rng) -> Frame {
     (frame, 1 + sizes(&[sequence, retire]) + 1 + n + 16)
 }
 
-/// A max_len about what the fixed fields and n bytes of reason take.
-fn max_len(r: &mut Rng, fixed: usize, n: usize) -> u64 {
+/// A max_len about what a close takes: its fields, the length of a reason of n bytes, the reason.
+fn max_len(r: &mut Rng, fields: usize, n: usize) -> u64 {
+    let fixed = fields + size(n as u64);
     match r.below(8) {
         0 => r.any(),
         1 | 2 => r.near(fixed) as u64,
@@ -152,8 +153,8 @@ fn max_len(r: &mut Rng, fixed: usize, n: usize) -> u64 {
 }
 
 /// The bytes that a close takes: its fields, and as much of its reason as max_len leaves.
-fn close_size(fields: usize, fixed: usize, max_len: u64, n: usize) -> usize {
-    let kept = usize::try_from(max_len).map_or(n, |m| m.saturating_sub(fixed).min(n));
+fn close_size(fields: usize, max_len: u64, n: usize) -> usize {
+    let kept = usize::try_from(max_len).map_or(n, |m| m.saturating_sub(fields + size(n as u64)).min(n));
     fields + size(kept as u64) + kept
 }
 
@@ -164,20 +165,19 @@ fn close(r: &mut Rng) -> Frame {
         1 => vec![r.below(2)],
         _ => vec![integer(r)],
     };
-    let (n, ty_size) = (reason.len(), size(ty.first().copied().unwrap_or(0)));
-    let fixed = 3 + ty_size + size(n as u64);
-    let max_len = max_len(r, fixed, n);
+    let n = reason.len();
+    let fields = 1 + size(code) + size(ty.first().copied().unwrap_or(0));
+    let max_len = max_len(r, fields, n);
     let frame = format!("close {} {code} {max_len} {} {}", r.below(2), join(&ty), hex(&reason));
-    (frame, close_size(1 + size(code) + ty_size, fixed, max_len, n))
+    (frame, close_size(fields, max_len, n))
 }
 
 fn appclose(r: &mut Rng) -> Frame {
     let (code, reason) = (integer(r), data(r));
-    let n = reason.len();
-    let fixed = 1 + size(code) + size(n as u64);
-    let max_len = max_len(r, fixed, n);
+    let (n, fields) = (reason.len(), 1 + size(code));
+    let max_len = max_len(r, fields, n);
     let frame = format!("appclose {} {code} {max_len} {}", r.below(2), hex(&reason));
-    (frame, close_size(1 + size(code), fixed, max_len, n))
+    (frame, close_size(fields, max_len, n))
 }
 
 /// Numbers that ascend, each a little or far above the one before; the last ones at times at the end of all numbers.
@@ -310,11 +310,18 @@ fn ids(emit: &mut dyn FnMut(String)) {
     }
 }
 
+/// Error codes of each size, and one past them all.
+const CODES: [u64; 5] = [63, 64, 16_384, 0x4000_0000, END];
+
 fn closes(emit: &mut dyn FnMut(String)) {
     for max_len in 0..41 {
+        for code in CODES {
+            let frame = format!("close 1 {code} {max_len} 6 {}", bytes(50));
+            lent(emit, &frame, close_size(2 + size(code), max_len, 50));
+        }
         for n in 0..71 {
             let reason = bytes(n);
-            for code in [0, 63, 16_384, END] {
+            for code in CODES {
                 let room = bytes(32 + n);
                 emit(format!("fenc appclose {} {code} {max_len} {reason} {room}", max_len % 2));
                 for ty in ["-", "0", "64", "4611686018427387904"] {

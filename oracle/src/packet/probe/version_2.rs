@@ -1,6 +1,6 @@
 //! Version 2 (RFC 9369): long headers with other type bits, which the Rust reads and writes as version 1's.
 use super::super::LONG_HEADER_FORM;
-use crate::harness::differences::{self, Decided, decided};
+use crate::harness::differences::{self, Decided, settle_changed};
 use crate::harness::rng::VERSION_2;
 
 /// The types of long packets in the order of their bits, 0 to 3: RFC 9000, 17.2, and RFC 9369, 3.2.
@@ -43,11 +43,5 @@ fn is_long(b: &[u8]) -> bool {
 
 /// As in differences.rs; where document 01 decides nothing, RFC 9369 does if it makes the answer another.
 pub(super) fn settle(out: &mut String, paper: Option<Decided>, ask: impl Fn(Types) -> String) {
-    let rust = || ask(Types::OfTheRust);
-    if paper.is_some() {
-        return differences::settle(out, paper, rust);
-    }
-    let (wanted, own) = (ask(Types::OfTheRfc), rust());
-    let paper = if wanted == own { None } else { decided(differences::VERSION_2, wanted) };
-    differences::settle(out, paper, || own);
+    settle_changed(out, paper, differences::VERSION_2, || ask(Types::OfTheRfc), || ask(Types::OfTheRust));
 }

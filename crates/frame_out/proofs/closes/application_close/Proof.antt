@@ -5,7 +5,7 @@ use Rattle.coding.specs.Said.{wroteOf}
 use Rattle.coding.proofs.Laws.{sized-bytes, sized-not, size-le}
 use Rattle.coding.proofs.Writes.{written-no}
 use Rattle.frame_out.specs.Closes.{application, fixedFields}
-use Rattle.frame_out.proofs.Cuts.{cut-kept, cut-not, close-not, code-past, application-kept}
+use Rattle.frame_out.proofs.Cuts.{cut-kept, cut-not, close-not, close-past, close-kept}
 use Rattle.frame_out.proofs.closes.application_close.Statement.{statement}
 use Rattle.frame_out.proofs.closes.application_close.Tie as tie
 
@@ -21,7 +21,7 @@ enum-told c = search needs
 returns : tie.Need-returns
 unfolding wroteOf
 returns c =
-    written-no _ (code-past _ _ _ (sized-not _ _ _ (c .before .before .size .ensures) (c .enum-told .given .1)))
+    written-no _ (close-past _ _ (application _) 1 (λ n. (omega arith, sized-not _ _ _ (c .before .before .size .ensures) (c .enum-told .given .1))))
 
 add-kept : tie.Need-add-kept
 add-kept c =
@@ -45,7 +45,7 @@ returns-2 c =
     let b = c .before .before .before .before in
     let h = sized-bytes _ _ _ (b .before .before .size .ensures) (b .n .given .1) in
     let k = cut-not _ _ _ _ (c .before .before .kept .ensures) _ (c .enum-told2 .given .1) in
-    written-no _ (close-not _ _ (application _) (rw (← h .1) at k))
+    written-no _ (close-not _ _ (application _) k (omega (arith, h .1)))
 
 slice-aggregate-frame-of : tie.Need-slice-aggregate-frame-of
 slice-aggregate-frame-of c = search needs
@@ -68,7 +68,8 @@ returns-3 c =
     let b = d .before .before .before .before in
     let h = sized-bytes _ _ _ (b .before .before .size .ensures) (b .n .given .1) in
     let k = cut-kept _ _ _ _ (d .before .before .kept .ensures) _ (d .len .given .1) in
-    rw (application-kept _ _ _ (k .1) _ (rw (← h .1) at (k .0))) (c .before .before .frame-of .ensures)
+    let a = b .before .before .before .before .before .args in
+    rw (close-kept _ _ (application (a .error-code)) k (omega (arith, h .1))) (c .before .before .frame-of .ensures)
 
 pub application-close-spec : {M : Type 1} → statement M
 application-close-spec =
