@@ -1,8 +1,8 @@
 """What answers there are: for each replay program a module with the classes of each operation's answers.
 
 CLASSES has, for each operation, the classes that must come up. DETAIL has how an answer that is no refusal is classed, from the
-words of its question and its own (by default its first word). MANY has, for an operation whose answer is a run of steps, the list
-of its classes, from the question and the answer.
+words of its question and its own (by default its first word). MANY has, for an operation whose answer is a run of steps, or can be
+of two classes, the list of its classes, from the question and the answer.
 """
 
 

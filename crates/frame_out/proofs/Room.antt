@@ -83,6 +83,11 @@ unfolding fixedFields
 fixed-mono (connection code ty) m n h k = omega (arith, size-mono m n h k)
 fixed-mono (application code) m n h k = omega (arith, size-mono m n h k)
 
+fixed-same : (c : Closing) (m n : ℕ) → varSize m ≡ varSize n → fixedFields c m ≡ fixedFields c n
+unfolding fixedFields
+fixed-same (connection code ty) m n e = rw e refl
+fixed-same (application code) m n e = rw e refl
+
 last-small : (c : Closing) (n : ℕ) → below62 (closeVals c n) ≡ true → n < 2 ^ 62
 last-small (connection code ty) n b = below-at (0x1c ∷ code ∷ wordNumber ty ∷ n ∷ []) 3 b (omega arith)
 last-small (application code) n b = below-at (0x1d ∷ code ∷ n ∷ []) 2 b (omega arith)
@@ -116,14 +121,26 @@ module _ (c : Closing) (reason : List ℕ) (max : ℕ) where
   left-long : length left ≤ length reason
   left-long = omega (arith, length-take (max - fixed) reason)
 
-  -- the frame is never longer than max
+  -- what the frame takes
+  close-long : (bs : List ℕ) → closeOut c reason max ≡ ok bs → length bs ≡ fixedFields c (length left) + length left
+  close-long bs e =
+      let k = close-seen c reason max bs e in
+      let s = out-seen (closeVals c (length left)) left bs (sym (close-vals c left) ∙ k .frame) in
+      rw (← s .same, length-append, ← fixed-bytes c (length left)) refl
+
+  -- it is never longer than max
   pub close-room : (bs : List ℕ) → closeOut c reason max ≡ ok bs → length bs ≤ max
   close-room bs e =
       let k = close-seen c reason max bs e in
-      let s = out-seen (closeVals c (length left)) left bs (sym (close-vals c left) ∙ k .frame) in
-      let all : length bs ≡ fixedFields c (length left) + length left
-      = rw (← s .same, length-append, ← fixed-bytes c (length left)) refl in
-      omega (arith, k .fits, fixed-mono c (length left) (length reason) left-long (k .small), length-take (max - fixed) reason)
+      let m = fixed-mono c (length left) (length reason) left-long (k .small) in
+      omega (arith, close-long bs e, k .fits, m, length-take (max - fixed) reason)
+
+  -- and where the reason is cut it is max, unless the length of what is left takes fewer bytes than the whole one's
+  pub close-full : (bs : List ℕ) → closeOut c reason max ≡ ok bs → max ≤ fixed + length reason → varSize (max - fixed) ≡ varSize (length reason) → length bs ≡ max
+  close-full bs e cut same =
+      let l : length left ≡ max - fixed = simp length-take (omega arith) in
+      let f = fixed-same c (length left) (length reason) (rw l same) in
+      omega (arith, close-long bs e, close-seen c reason max bs e .fits, l, f)
 
   -- where the integers are below 2^62 and the frame has at most 65,527 bytes, it is refused exactly when max is below the sum
   module _ (small : below62 (closeVals c (length reason)) ≡ true) (short : fixedFields c (length left) + length left ≤ 65527) where
