@@ -194,8 +194,8 @@ typedef struct guobbarel_number_ends {
 enum guobbarel_step {
     GUOBBAREL_SEND = 0,        /* uses up the next number: answers it and what of it the packet carries */
     GUOBBAREL_ACKNOWLEDGE = 1, /* `number` was acknowledged; one that was not sent is 14 */
-    GUOBBAREL_READ = 2,        /* answers the full number of number_len and number_value, and changes nothing. At the end of the
-                                  space that can be 2^62 or more, which an accept refuses (docs/DIFFERENCES.md) */
+    GUOBBAREL_READ = 2,        /* answers the full number of number_len and number_value, and changes nothing. It is below 2^62,
+                                  unless 2^62 - 1 was accepted; an accept refuses what is not */
     GUOBBAREL_ACCEPT = 3       /* `number` was accepted; one above 2^62 - 1 is 14 */
 };
 

@@ -73,7 +73,7 @@ impl Ends {
         self.step(ACKNOWLEDGE, number.get(), CutNumber::new(0, 0)).map(|_| ())
     }
 
-    /// The full number of a cut one: the nearest to the one that is expected next.
+    /// The full number of a cut one: the nearest to the one that is expected next. It is below 2^62 unless 2^62 - 1 was accepted.
     ///
     /// # Errors
     /// [`Error::Argument`] for a cut number outside its rule.

@@ -334,6 +334,31 @@ fn numbers_are_sent_read_and_accepted() {
 }
 
 #[test]
+fn a_link_is_read_up_to_the_last_number() {
+    const END: u64 = 1 << 62;
+    let (number, last) = (FullNumber::new, FullNumber::new(END - 601));
+    let mut sender = Ends::from_parts(number(END - 600), Some(last), None);
+    let mut receiver = Ends::from_parts(number(0), None, Some(last));
+    while sender.next().get() < END {
+        let sent = sender.send().unwrap();
+        (0..256).for_each(|value| assert!(receiver.read(CutNumber::new(1, value)).unwrap().get() < END));
+        assert_eq!(receiver.read(sent.cut), Ok(sent.number));
+        receiver.accept(sent.number).unwrap();
+        sender.acknowledge(sent.number).unwrap();
+    }
+    assert_eq!(sender.send(), Err(Error::Argument));
+
+    // all numbers are used up: the values up to half the window are read as 2^62 and more, which is not accepted
+    let before = receiver;
+    for value in 0..256 {
+        let read = receiver.read(CutNumber::new(1, value)).unwrap();
+        assert_eq!(read.get() < END, value > 128);
+        assert_eq!(receiver.accept(read), if value > 128 { Ok(()) } else { Err(Error::Argument) });
+    }
+    assert_eq!(receiver, before);
+}
+
+#[test]
 fn a_header_is_written_masked_and_read_back() {
     let number = CutNumber::new(2, 0x0102);
     let header = Header::initial(VERSION_1, number);

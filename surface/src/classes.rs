@@ -42,35 +42,43 @@ pub fn all(op: &str) -> impl Iterator<Item = &'static str> {
         "frames" => (ours::frame_words(), "no 10,no 11,no 12,no 13,no 14"),
         "ackscan" => (vec!["ok"], "no 10,no 12"),
         "ackiter" => (vec!["range", "end"], "no 10,no 12,no 14"),
-        "ends" => (STEPS.into(), "send no 14,send no 16,acknowledge no 14,read no 14,accept no 14"),
+        "ends" => (STEPS.into(), "send no 14,send no 16,acknowledge no 14,read no 14,accept no 14,run # ceiling"),
         "pnnew" => (vec!["ok"], "no 14,no 16"),
-        "pnexp" => (vec!["ok"], "no 14"),
+        "pnexp" => (vec!["ok"], "ok # ceiling,no 14"),
         _ => (vec![], "an operation without a list"),
     };
     kinds.into_iter().chain(rest.split(',')).chain(all_of_2(op).iter().flat_map(|some| some.split(',')))
 }
 
-/// Hands out the class of an answer, of a walk or a run that of each step. The mark of version 2 stands behind a class, no other does.
+/// The marks that stand behind a class, so that it must come up with them; no other does.
+const SHOWN: [&str; 2] = [differences::VERSION_2, differences::CEILING];
+
+/// Hands out the class of an answer, of a walk or a run that of each step; of a run with a mark that too.
 pub fn each(op: &str, question: &str, answer: &str, mark: &str, count: &mut dyn FnMut(&str)) {
     let kind_asked = || question.split(' ').nth(1).unwrap_or_default();
-    let is_marked = mark == differences::VERSION_2;
+    let mark = if SHOWN.contains(&mark) { mark } else { "" };
     match op {
-        "walk" => walked(word(question, 4), answer, is_marked, count),
+        "walk" => walked(word(question, 4), answer, mark, count),
         "frames" if answer.starts_with("ok") => answer.split(" ; ").skip(1).for_each(|frame| count(framed(frame))),
         "ackiter" => answer.split_terminator(';').for_each(|step| count(ranged(step))),
-        "ends" => answer.split_terminator(';').enumerate().for_each(|(i, step)| count(&stepped(question, i, step))),
-        "henc" | "whole" if answer.starts_with("ok") => count(&with_mark(kind_asked(), is_marked)),
-        "decode" | "split" | "finish" if answer.starts_with("ok") => count(&with_mark(word(answer, 1), is_marked)),
-        _ => count(&with_mark(refusal_or_word(answer), is_marked)),
+        "ends" => {
+            answer.split_terminator(';').enumerate().for_each(|(i, step)| count(&stepped(question, i, step)));
+            if !mark.is_empty() {
+                count(&with_mark("run", mark));
+            }
+        }
+        "henc" | "whole" if answer.starts_with("ok") => count(&with_mark(kind_asked(), mark)),
+        "decode" | "split" | "finish" if answer.starts_with("ok") => count(&with_mark(word(answer, 1), mark)),
+        _ => count(&with_mark(refusal_or_word(answer), mark)),
     }
     let is_header = matches!(op, "decode" | "split") && matches!(refusal_or_word(answer), "ok" | "no 4");
     if is_header && version_at(word(question, 4), 0) == Some(VERSION_2) {
-        count(&with_mark(&listed(word(question, 3)), is_marked));
+        count(&with_mark(&listed(word(question, 3)), mark));
     }
 }
 
-fn with_mark(class: &str, is_marked: bool) -> String {
-    if is_marked { format!("{class} # {}", differences::VERSION_2) } else { class.into() }
+fn with_mark(class: &str, mark: &str) -> String {
+    format!("{class}{}", differences::mark_if(!mark.is_empty(), mark))
 }
 
 /// The version of the long packet that starts at a place of a datagram; none in a short one.
@@ -105,20 +113,22 @@ fn refusal_or_word(answer: &str) -> &str {
 
 /// Of each START LENGTH KIND OFFSET the kind, with the mark where it is of version 2; whether there are both versions; then how the
 /// walk ended: end TOTAL | refused START N.
-fn walked(datagram: &str, answer: &str, is_marked: bool, count: &mut dyn FnMut(&str)) {
+fn walked(datagram: &str, answer: &str, mark: &str, count: &mut dyn FnMut(&str)) {
     let mut versions = Vec::new();
     for said in answer.split("; ") {
         match word(said, 0) {
-            "end" => count(&with_mark("end", is_marked)),
-            "refused" => count(&with_mark(&format!("refused {}", word(said, 2)), is_marked)),
+            "end" => count(&with_mark("end", mark)),
+            "refused" => count(&with_mark(&format!("refused {}", word(said, 2)), mark)),
             start => {
-                versions.push(version_at(datagram, start.parse().unwrap_or_default()));
-                count(&with_mark(word(said, 2), versions.last() == Some(&Some(VERSION_2))));
+                let version = version_at(datagram, start.parse().unwrap_or_default());
+                let of_2 = if version == Some(VERSION_2) { differences::VERSION_2 } else { "" };
+                count(&with_mark(word(said, 2), of_2));
+                versions.push(version);
             }
         }
     }
     if [1, VERSION_2].iter().all(|version| versions.contains(&Some(*version))) {
-        count(&with_mark("both versions", true));
+        count(&with_mark("both versions", differences::VERSION_2));
     }
 }
 
@@ -163,6 +173,13 @@ mod tests {
         assert_eq!(of("ackiter 5 00", "5 5 : 5 0;end : 5 0;"), ["range", "end"]);
         let steps = format!("ends 00{}01{}", "0".repeat(24), "0".repeat(24));
         assert_eq!(of(&steps, "ok 0 1 0 : 1 - -;no 14 : 1 - -;"), ["send", "acknowledge no 14"]);
+    }
+
+    #[test]
+    fn a_reading_at_the_ceiling_is_classed_apart() {
+        assert_eq!(marked("pnexp 1 0 9", "ok 9", "ceiling"), ["ok # ceiling"]);
+        let steps = format!("ends 02{}02{}", "0".repeat(24), "0".repeat(24));
+        assert_eq!(marked(&steps, "ok 0 : 0 - -;ok 0 : 0 - -;", "ceiling"), ["read", "read", "run # ceiling"]);
     }
 
     #[test]

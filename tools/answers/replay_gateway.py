@@ -24,7 +24,7 @@ CLASSES = {
     + ['retry', 'vneg', 'retry' + PAST, 'vneg' + PAST, 'no 8', 'no 8' + OFFSET, 'no 14', 'no 14' + OFFSET, 'no 14' + FORM, 'no 14' + SIZE],
     'gframe': [type_name(ty) for ty in TYPES] + [f'{type_name(ty)} no 10' for ty in TYPES if ty not in WHOLE]
     + [f'{type_name(ty)} no 12' for ty in MALFORMED] + ['end', 'later', 'no 11', 'no type, no 10', 'no 13', 'no 14' + SIZE],
-    'gnumber': [f'send, {length}' for length in LENGTHS] + ['send no 14', 'send no 16', 'read', 'read no 14', 'no step', 'no flag']
+    'gnumber': [f'send, {length}' for length in LENGTHS] + ['send no 14', 'send no 16', 'read', 'read # ceiling', 'read no 14', 'no step', 'no flag']
     + [f'{step}{said}' for step in ('acknowledge', 'accept') for said in (', larger', ', no larger', ' no 14')],
     'gheader': HEADER + ROOM + HEADER_2 + ['no 14']
     + ['no 14 # ' + mark for mark in ('cid-over-20', 'cut-rule', 'u24-fourth-byte', 'length-16384')] + ['no 14' + SIZE, 'no 15 # short-buffer'],

@@ -4,17 +4,18 @@ from answers import size
 LENGTHS = ['1 byte', '2 bytes', '3 bytes', '4 bytes']
 WAYS = ['candidate', '+ window', '- window']
 SHORT, U24, FAR, PAST_62, RULE = ' # short-buffer', ' # u24-fourth-byte', ' # number-too-far', ' # number-62', ' # cut-rule'
+CEILING = ' # ceiling'
 # the steps of a run, by their numbers
 STEPS = ['send', 'acknowledge', 'read', 'accept', 'set next', 'set acked', 'set largest']
 
 CLASSES = {
     'pnnew': LENGTHS + ['3 bytes' + U24, 'no 14' + PAST_62, 'no 14' + FAR, 'no 16' + FAR],
-    'pnexp': [f'{length}, {way}' for length in LENGTHS for way in WAYS] + ['no 14' + mark for mark in (RULE, U24, PAST_62)],
+    'pnexp': [f'{length}, {way}' for length in LENGTHS for way in WAYS + ['candidate' + CEILING]] + ['no 14' + mark for mark in (RULE, U24, PAST_62)],
     'pndec': LENGTHS + ['no 14' + RULE],
     'pnenc': LENGTHS + ['no 14' + RULE, 'no 14' + U24, 'no 15' + SHORT],
     'pnlen': LENGTHS,
     'pntag': LENGTHS + ['no 14' + RULE, 'no 14' + U24],
-    'ends': [f'send, {length}' for length in LENGTHS] + ['send no 14', 'send no 16', 'read', 'read no 14'] + STEPS[4:]
+    'ends': [f'send, {length}' for length in LENGTHS] + ['send no 14', 'send no 16', 'read', 'read no 14', 'run' + CEILING] + STEPS[4:]
     + [f'{step}{said}' for step in ('acknowledge', 'accept') for said in (', larger', ', no larger', ' no 14')],
 }
 
@@ -38,11 +39,12 @@ def step_class(step, said, has_moved):
 
 
 def ends(question, answer, mark):
-    """The class of each step."""
+    """The class of each step; and of the run, where it has a mark."""
     steps = bytes.fromhex(question.split(' ')[1])
     said = [part.partition(' : ') for part in answer.split(';')[:-1]]
     before = ['0 - -'] + [record for _, _, record in said]
-    return [step_class(STEPS[steps[13 * i]], text, record != before[i]) for i, (text, _, record) in enumerate(said)]
+    of_run = [f'run # {mark}'] if mark else []
+    return [step_class(STEPS[steps[13 * i]], text, record != before[i]) for i, (text, _, record) in enumerate(said)] + of_run
 
 
 DETAIL = {

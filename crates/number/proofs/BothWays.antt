@@ -1,142 +1,24 @@
--- Runs of the model, so that it is not empty: for every length a packet that is read as it was sent, and one that is misread; and an
--- acknowledgement that shortens the next cut.
-use Prim.Native.Nat.{ℕ, zero, suc, _+_, _-_, _*_, _/_, _%_, _^_, _≤_, _<_}
+-- Runs of the model, so that it is not empty: for every length a packet that is read as it was sent, and one that is misread; at the
+-- ceiling one that is read as it was sent though it is not near; and an acknowledgement that shortens the next cut.
+use Prim.Native.Nat.{ℕ, suc, _+_, _-_, _*_, _/_, _^_, _≤_, _<_}
 use mathlib.Core.Path.{_≡_, refl, sym, ap, _∙_}
-use mathlib.Core.List.{List·Memᴰ, List·Memᴰ·head, List·Memᴰ·tail}
-use mathlib.Core.Logic.{⊎-elim}
+use mathlib.Core.List.{List·Memᴰ}
+use mathlib.Core.Logic.{inl, inr, ⊎-elim}
 use native.Mathlib.Nat.{two-pow-succ, one-le-pow}
 use native.Mathlib.Omega.{arith}
-use lib.Pow.{pow-mono, pow-lt}
+use lib.Pow.{pow-mono}
 use Rattle.coding.specs.Words.{if_then_else_, ok}
 use Rattle.number.specs.Cutting.{cut, windowOf, bytesFor}
-use Rattle.number.specs.Ends.{SoFar, none, at, Ends, baseOf, expectedOf, largerOf, Call, Packet, done, sendWith, sendBy, readBy}
-use Rattle.number.specs.Line.{World, freshWorld, LineStep, Reach}
-use Rattle.number.specs.Line.LineStep.{sends, accepts, acknowledges, hears}
+use Rattle.number.specs.Ends.{SoFar, none, at, Ends, baseOf, expectedOf, largerOf, Call, Packet, sendBy, readBy}
+use Rattle.number.specs.Line.{World, freshWorld, LineStep, Reach, AsSent, Near}
+use Rattle.number.specs.Line.LineStep.{hears}
 use Rattle.number.specs.Line.Reach.{start, next}
-use Rattle.number.proofs.Windows.{le?, bytes-are, bytes-some}
-use Rattle.number.proofs.Cuts.{made-cut}
-use Rattle.number.proofs.Calls.{SendMade, send-yes, send-on}
-use Rattle.number.proofs.Delivery.{inv, reads, delivered, heard, taken}
+use Rattle.number.proofs.Windows.{Window, window-made, bytes-are}
+use Rattle.number.proofs.Calls.{SendMade}
+use Rattle.number.proofs.Going.{packet, base-le, send-packet, Paced, More, more, Accepted, accept-it, Heard, hear-it, rounds, up-to, heard-all}
+use Rattle.number.proofs.Delivery.{inv, LargestIn, largest-in, reads, delivered, heard}
 
--- ---- the sender goes on
-
--- the packet with number n, cut from a base
-abbrev pub packet : ℕ → ℕ → Packet
-packet base n = record { number = n; carries = cut (bytesFor (2 * (n - base))) (n % windowOf (bytesFor (2 * (n - base)))) }
-
-base-le : (l : SoFar) → baseOf l ≤ expectedOf l
-unfolding baseOf expectedOf
-base-le none = omega arith
-base-le (at m) = omega arith
-
-send-packet : (e : Ends) → SendMade e → e .next < 2 ^ 62 → e .next < baseOf (e .acked) + 2 ^ 31
-    → sendBy e ≡ done (packet (baseOf (e .acked)) (e .next)) (record { next = e .next + 1; acked = e .acked; largest = e .largest })
-unfolding sendWith
-send-packet e m p q =
-    let b : ℕ = baseOf (e .acked) in
-    let low : b ≤ e .next = omega (arith, m .sent, base-le (e .acked)) in
-    let k : ℕ = bytesFor (2 * (e .next - b)) in
-    sym (send-on e (ok (cut k (e .next % windowOf k))) (send-yes e m) (made-cut (e .next) b (omega arith) low k refl (bytes-some _ (omega arith))))
-
--- a world after w with j packets more
-pub record More (w : World) (j : ℕ) : Type 0 where
-  pub world : World
-  pub reach : Reach world
-  pub receiver : world .receiver ≡ w .receiver
-  pub acked : world .sender .acked ≡ w .sender .acked
-  pub next : world .sender .next ≡ w .sender .next + j
-  pub keeps : {p : Packet} → List·Memᴰ p (w .sent) → List·Memᴰ p (world .sent)
-  pub adds : (i : ℕ) → i < j → List·Memᴰ (packet (baseOf (w .sender .acked)) (w .sender .next + i)) (world .sent)
-
-one-more : (w : World) (j : ℕ) → w .sender .next + j < 2 ^ 62 → w .sender .next + j < baseOf (w .sender .acked) + 2 ^ 31 → More w j → More w (suc j)
-one-more w j p q m =
-    let s = m .world .sender in
-    let b : baseOf (s .acked) ≡ baseOf (w .sender .acked) = ap baseOf (m .acked) in
-    let e = send-packet s (inv (m .reach) .made) (omega (arith, m .next)) (omega (arith, m .next, b)) in
-    record {
-      world = _;
-      reach = next (m .reach) (sends e);
-      receiver = m .receiver;
-      acked = m .acked;
-      next = omega (arith, m .next);
-      keeps = λ x. List·Memᴰ·tail (m .keeps x);
-      adds =
-          λ i x.
-          ⊎-elim
-          (λ y. List·Memᴰ·tail (m .adds i y))
-          (λ y.
-          let z : w .sender .next + i ≡ s .next = omega (arith, m .next) in
-          List·Memᴰ·head (rw (b, z)))
-          (le? (suc i) j);
-    }
-
-more : {w : World} → Reach w → (j : ℕ) → w .sender .next + j ≤ 2 ^ 62 → w .sender .next + j ≤ baseOf (w .sender .acked) + 2 ^ 31 → More w j
-more {w} r zero p q =
-    record { world = w; reach = r; receiver = refl; acked = refl; next = omega arith; keeps = λ x. x; adds = λ i x. absurd (omega arith) }
-more {w} r (suc j) p q = one-more w j (omega arith) (omega arith) (more r j (omega arith) (omega arith))
-
--- ---- a packet that is near is accepted, then acknowledged, and the sender hears of it
-
-pub record Accepted (w : World) (p : Packet) : Type 0 where
-  pub world : World
-  pub reach : Reach world
-  pub sender : world .sender ≡ w .sender
-  pub largest : world .receiver .largest ≡ largerOf (w .receiver .largest) (p .number)
-  pub sent : world .sent ≡ w .sent
-  pub accepted : List·Memᴰ (p .number) (world .accepted)
-
-accept-it : {w : World} → Reach w → {p : Packet} → List·Memᴰ p (w .sent) → expectedOf (w .receiver .largest) < p .number + 2 ^ (8 * p .carries .0 - 1) → Accepted w p
-accept-it {w} r {p} m near =
-    record {
-      world = _;
-      reach = next r (accepts m (delivered r m .1 near) (taken r m));
-      sender = refl;
-      largest = refl;
-      sent = refl;
-      accepted = List·Memᴰ·head refl;
-    }
-
-pub record Heard (w : World) (n : ℕ) : Type 0 where
-  pub before : World
-  pub told : Reach before
-  pub world : World
-  pub step : LineStep before world
-  pub same : before .sender ≡ w .sender
-  pub sender : world .sender ≡ record { next = w .sender .next; acked = largerOf (w .sender .acked) n; largest = w .sender .largest }
-  pub receiver : world .receiver ≡ w .receiver
-  pub sent : world .sent ≡ w .sent
-
-hear-it : {w : World} → Reach w → {n : ℕ} → List·Memᴰ n (w .accepted) → Heard w n
-hear-it {w} r {n} m =
-    let t = next r (acknowledges m) in
-    record {
-      before = _;
-      told = t;
-      world = _;
-      step = hears (List·Memᴰ·head refl) (heard t (List·Memᴰ·head refl));
-      same = refl;
-      sender = refl;
-      receiver = refl;
-      sent = refl;
-    }
-
--- ---- for every length, both ways
-
--- the first number that takes k bytes where nothing is acknowledged
-abbrev pub least : ℕ → ℕ
-least k = 2 ^ (8 * (k - 1)) / 2
-
-least-small : (k : ℕ) → k ≤ 4 → least k ≤ 2 ^ 23
-least-small k q = omega (arith, pow-mono {i = 8 * (k - 1)} {j = 24} (omega arith))
-
-least-takes : (k : ℕ) → 1 ≤ k → k ≤ 4 → bytesFor (2 * (least k - 0)) ≡ k
-least-takes k p q =
-    bytes-are k (2 * (least k - 0)) p q
-    (omega (arith, pow-lt {i = 8 * (k - 1)} {j = 8 * k} (omega arith)))
-    (λ j x y.
-    let e : 8 * (k - 1) ≡ suc (8 * (k - 1) - 1) = omega arith in
-    let t : 2 ^ (8 * (k - 1)) ≡ 2 ^ (8 * (k - 1) - 1) + 2 ^ (8 * (k - 1) - 1) = ap (λ (m : ℕ). 2 ^ m) e ∙ two-pow-succ (8 * (k - 1) - 1) in
-    omega (arith, t, pow-mono {i = 8 * j} {j = 8 * (k - 1)} (omega arith)))
+-- ---- for every length a packet, and numbers that overtake it
 
 -- a world that is reached, with a packet of k bytes that was sent, of which the claim holds
 pub record Shown (k : ℕ) (claim : World → Packet → Type 0) : Type 0 where
@@ -147,8 +29,82 @@ pub record Shown (k : ℕ) (claim : World → Packet → Type 0) : Type 0 where
   pub takes : packet .carries .0 ≡ k
   pub so : claim world packet
 
-abbrev pub Rightly : World → Packet → Type 0
-Rightly w p = readBy (w .receiver) (p .carries) ≡ ok (p .number)
+-- of that world and packet, another claim
+claims : {k : ℕ} {a b : World → Packet → Type 0} (s : Shown k a) → b (s .world) (s .packet) → Shown k b
+claims s so = record { world = s .world; reach = s .reach; packet = s .packet; sent = s .sent; takes = s .takes; so = so }
+
+-- the first distance from the largest acknowledged that takes k bytes
+abbrev pub least : ℕ → ℕ
+least k = 2 ^ (8 * (k - 1)) / 2
+
+least-small : (k : ℕ) → Window k → least k ≤ 2 ^ 23
+least-small k win = omega (arith, pow-mono {i = 8 * (k - 1)} {j = 24} (omega (arith, win)))
+
+-- and so does the next
+least-takes : (k d : ℕ) → Window k → least k ≤ d → d ≤ least k + 1 → bytesFor (2 * d) ≡ k
+least-takes k d win p q =
+    bytes-are k (2 * d) (win .low) (win .high)
+    (omega (arith, win, pow-mono {i = 8 * (k - 1)} {j = 8 * k - 1} (omega (arith, win))))
+    (λ j x y.
+    let e : 8 * (k - 1) ≡ suc (8 * (k - 1) - 1) = omega arith in
+    let t : 2 ^ (8 * (k - 1)) ≡ 2 ^ (8 * (k - 1) - 1) + 2 ^ (8 * (k - 1) - 1) = ap (λ (m : ℕ). 2 ^ m) e ∙ two-pow-succ (8 * (k - 1) - 1) in
+    omega (arith, t, pow-mono {i = 8 * j} {j = 8 * (k - 1)} (omega arith)))
+
+-- the packet with number n is sent last after w, and the receiver is as it was
+pub record Latest (w : World) (n : ℕ) (v : World) (p : Packet) : Type 0 where
+  pub number : p .number ≡ n
+  pub next : v .sender .next ≡ n + 1
+  pub acked : v .sender .acked ≡ w .sender .acked
+  pub receiver : v .receiver ≡ w .receiver
+
+-- n is the number of the packet, and d numbers overtook it: the last was accepted
+pub record Passed (n d : ℕ) (v : World) (p : Packet) : Type 0 where
+  pub number : p .number ≡ n
+  pub largest : v .receiver .largest ≡ at (n + d)
+
+passed-by : {w : World} {k n d : ℕ} (s : Shown k (Latest w n)) {m : ℕ} → Paced (s .world) m → m ≡ n + d → Shown k (Passed n d)
+passed-by s g e =
+    record {
+      world = g .world;
+      reach = g .reach;
+      packet = s .packet;
+      sent = g .keeps (s .sent);
+      takes = s .takes;
+      so = record { number = s .so .number; largest = g .largest ∙ ap at e };
+    }
+
+-- a world of which the sender is no more than a number past what it heard of
+module _ {w : World} (r : Reach w) (heard-of : w .sender .next ≤ baseOf (w .sender .acked) + 1) (k : ℕ) (win : Window k) where
+  -- the packet's number
+  abbrev later : ℕ
+  later = w .sender .next + least k
+
+  latest-by : More w (least k + 1) → Shown k (Latest w later)
+  latest-by a =
+      let b : ℕ = baseOf (w .sender .acked) in
+      let low : b ≤ w .sender .next = omega (arith, inv r .made .sent, base-le (w .sender .acked)) in
+      record {
+        world = a .world;
+        reach = a .reach;
+        packet = packet b later;
+        sent = a .adds (least k) (omega arith);
+        takes = least-takes k (later - b) win (omega arith) (omega arith);
+        so = record { number = refl; next = omega (arith, a .next); acked = a .acked; receiver = a .receiver };
+      }
+
+  pub latest : later < 2 ^ 62 → Shown k (Latest w later)
+  latest top = latest-by (more r (least k + 1) (omega arith) (omega (arith, least-small k win)))
+
+  pub passed : (d : ℕ) → 1 ≤ d → later + d < 2 ^ 62 → Shown k (Passed later d)
+  passed d pos top = go (latest (omega arith))
+    where
+      go : Shown k (Latest w later) → Shown k (Passed later d)
+      go s =
+          let b : baseOf (s .world .sender .acked) ≡ baseOf (w .sender .acked) = ap baseOf (s .so .acked) in
+          let n = s .so .next in
+          passed-by s (rounds (s .reach) (d - 1) (omega (arith, n)) (omega (arith, n, b, least-small k win))) (omega (arith, n))
+
+-- ---- both ways, for every length
 
 -- it is read as another number
 pub record Misread (w : World) (p : Packet) : Type 0 where
@@ -156,111 +112,110 @@ pub record Misread (w : World) (p : Packet) : Type 0 where
   pub reads : readBy (w .receiver) (p .carries) ≡ ok other
   pub differs : other ≡ p .number → ⊥
 
-misread : {w : World} → Reach w → {p : Packet} → List·Memᴰ p (w .sent) → p .number + 2 ^ (8 * p .carries .0 - 1) ≤ expectedOf (w .receiver .largest) → Misread w p
-misread {w} r {p} m far =
-    let q = sym (reads r m) in
-    record { other = _; reads = q; differs = λ e. let near = delivered r m .0 (q ∙ ap ok e) in absurd (omega (arith, far, near)) }
+-- half a window further on, far below 2^62
+misread : {w : World} → Reach w → {p : Packet} → List·Memᴰ p (w .sent) → (k : ℕ) → Window k → p .carries .0 ≡ k → {n : ℕ} → n ≤ 2 ^ 23
+    → Passed n (2 ^ (8 * k - 1) - 1) w p
+    → Misread w p
+unfolding expectedOf
+misread {w} r {p} m k win takes low so =
+    let is = sym (reads r m) in
+    let e = ap expectedOf (so .largest) in
+    record {
+      other = _;
+      reads = is;
+      differs =
+          λ same.
+          ⊎-elim
+          (λ x. let y : expectedOf (w .receiver .largest) < p .number + 2 ^ (8 * k - 1) = rw takes at x in omega (arith, win, e, so .number, y))
+          (λ x. let y : 2 ^ 62 ≤ p .number + windowOf k = rw takes at (x .1) in omega (arith, win, so .number, y))
+          (delivered r m .0 (is ∙ ap ok same));
+    }
 
 -- where nothing is accepted yet, every packet is near
 nothing-yet : {l : SoFar} → l ≡ none → (n j : ℕ) → expectedOf l < n + 2 ^ j
 unfolding expectedOf
 nothing-yet e n j = rw e (omega (arith, one-le-pow j 2 (omega arith)))
 
--- 2^31 packets with nothing acknowledged
-first-half : More freshWorld (2 ^ 31)
-unfolding baseOf
-first-half = more start (2 ^ 31) (omega arith) (omega arith)
+-- a fresh sender heard of nothing, and has sent nothing
+fresh-heard : freshWorld .sender .next ≤ baseOf (freshWorld .sender .acked) + 1
+fresh-heard = omega arith
 
-pub runs-rightly : (k : ℕ) → 1 ≤ k → k ≤ 4 → Shown k Rightly
-unfolding baseOf
-runs-rightly k p q =
-    let a = first-half in
-    let m = a .adds (least k) (omega (arith, least-small k q)) in
-    let z : 0 + least k ≡ least k = omega arith in
-    let n : a .world .receiver .largest ≡ none = ap (λ (e : Ends). e .largest) (a .receiver) in
-    let s : List·Memᴰ (packet 0 (least k)) (a .world .sent) = rw z at m in
-    record {
-      world = a .world;
-      reach = a .reach;
-      packet = packet 0 (least k);
-      sent = s;
-      takes = least-takes k p q;
-      so = delivered (a .reach) s .1 (nothing-yet n _ _);
-    }
+-- nothing is accepted yet, and it is read as it was sent
+rightly : {k n : ℕ} → Shown k (Latest freshWorld n) → Shown k AsSent
+rightly s = claims s (delivered (s .reach) (s .sent) .1 (inl (nothing-yet (ap (λ (e : Ends). e .largest) (s .so .receiver)) _ _)))
 
--- the last of them is accepted and heard of; as many again are sent, and the last of those is accepted
-first-taken : Accepted (first-half .world) (packet 0 (2 ^ 31 - 1))
-unfolding baseOf
-first-taken =
-    let a = first-half in
-    let n : a .world .receiver .largest ≡ none = ap (λ (e : Ends). e .largest) (a .receiver) in
-    accept-it (a .reach) (a .adds (2 ^ 31 - 1) (omega arith)) (nothing-yet n _ _)
+pub runs-rightly : (k : ℕ) → 1 ≤ k → k ≤ 4 → Shown k AsSent
+runs-rightly k p q = let win = window-made k p q in rightly (latest start fresh-heard k win (omega (arith, least-small k win)))
 
-first-heard : Heard (first-taken .world) (2 ^ 31 - 1)
-first-heard = hear-it (first-taken .reach) (first-taken .accepted)
+-- a fresh world, and d numbers that overtake the packet
+fresh-passed : (k : ℕ) → Window k → (d : ℕ) → 1 ≤ d → d ≤ 2 ^ 31 → Shown k (Passed (0 + least k) d)
+fresh-passed k win d low high = passed start fresh-heard k win d low (omega (arith, least-small k win))
 
-next-then : first-heard .world .sender .next ≡ 2 ^ 31
-next-then = ap (λ (e : Ends). e .next) (first-heard .sender) ∙ ap (λ (e : Ends). e .next) (first-taken .sender) ∙ first-half .next
+-- up to this distance it is near, and read as it was sent
+abbrev pub NearBy : ℕ → World → Packet → Type 0
+NearBy k w p = (w .receiver .largest ≡ at (p .number + (2 ^ (8 * k - 1) - 2))) × AsSent w p
 
-acked-then : first-heard .world .sender .acked ≡ at (2 ^ 31 - 1)
-unfolding largerOf
-acked-then =
-    ap (λ (e : Ends). e .acked) (first-heard .sender)
-    ∙ ap (λ (e : Ends). largerOf (e .acked) (2 ^ 31 - 1)) (first-taken .sender)
-    ∙ ap (λ (l : SoFar). largerOf l (2 ^ 31 - 1)) (first-half .acked)
+near-by : {k n : ℕ} → Window k → Shown k (Passed n (2 ^ (8 * k - 1) - 2)) → Shown k (NearBy k)
+unfolding expectedOf
+near-by win s =
+    let e = ap expectedOf (s .so .largest) in
+    claims s (
+      s .so .largest ∙ ap at (omega (arith, s .so .number)),
+      delivered (s .reach) (s .sent) .1 (inl (rw (s .takes) (omega (arith, win, e, s .so .number)))),
+    )
 
-largest-then : first-heard .world .receiver .largest ≡ at (2 ^ 31 - 1)
-unfolding largerOf
-largest-then =
-    ap (λ (e : Ends). e .largest) (first-heard .receiver)
-    ∙ first-taken .largest
-    ∙ ap (λ (e : Ends). largerOf (e .largest) (2 ^ 31 - 1)) (first-half .receiver)
+pub runs-near : (k : ℕ) → 1 ≤ k → k ≤ 4 → Shown k (NearBy k)
+runs-near k p q = let win = window-made k p q in near-by win (fresh-passed k win _ (omega (arith, win)) (omega (arith, win)))
 
-second-half : More (first-heard .world) (2 ^ 31 - 1)
-unfolding baseOf
-second-half =
-    let b : baseOf (first-heard .world .sender .acked) ≡ 2 ^ 31 - 1 = ap baseOf acked-then in
-    more (next (first-heard .told) (first-heard .step)) (2 ^ 31 - 1) (omega (arith, next-then)) (omega (arith, next-then, b))
+-- a number further it is misread
+abbrev pub FurtherOn : ℕ → World → Packet → Type 0
+FurtherOn k w p = (w .receiver .largest ≡ at (p .number + (2 ^ (8 * k - 1) - 1))) × Misread w p
 
--- the packet with number 2^32 - 2
-last-packet : Packet
-last-packet = packet (baseOf (first-heard .world .sender .acked)) (first-heard .world .sender .next + (2 ^ 31 - 2))
+further-on : {k n : ℕ} → Window k → n ≤ 2 ^ 23 → Shown k (Passed n (2 ^ (8 * k - 1) - 1)) → Shown k (FurtherOn k)
+further-on {k} win low s = claims s (s .so .largest ∙ ap at (omega (arith, s .so .number)), misread (s .reach) (s .sent) k win (s .takes) low (s .so))
 
-second-taken : Accepted (second-half .world) last-packet
-unfolding expectedOf last-packet
-second-taken =
-    let n : second-half .world .receiver .largest ≡ at (2 ^ 31 - 1) = ap (λ (e : Ends). e .largest) (second-half .receiver) ∙ largest-then in
-    accept-it (second-half .reach) (second-half .adds (2 ^ 31 - 2) (omega arith)) (rw n (omega (arith, next-then)))
-
-largest-last : second-taken .world .receiver .largest ≡ at (2 ^ 32 - 2)
-unfolding largerOf if_then_else_ last-packet
-largest-last =
-    second-taken .largest
-    ∙ ap (λ (e : Ends). largerOf (e .largest) (last-packet .number)) (second-half .receiver)
-    ∙ ap (λ (l : SoFar). largerOf l (last-packet .number)) largest-then
-    ∙ ap (λ (m : ℕ). largerOf (at (2 ^ 31 - 1)) (m + (2 ^ 31 - 2))) next-then
-
-kept : {p : Packet} → List·Memᴰ p (first-half .world .sent) → List·Memᴰ p (second-taken .world .sent)
-kept {p} m =
-    let n : List·Memᴰ p (first-heard .world .sent) = rw (first-heard .sent, first-taken .sent) m in
-    rw (second-taken .sent) (second-half .keeps n)
-
-pub runs-misread : (k : ℕ) → 1 ≤ k → k ≤ 4 → Shown k Misread
-unfolding baseOf expectedOf
+pub runs-misread : (k : ℕ) → 1 ≤ k → k ≤ 4 → Shown k (FurtherOn k)
 runs-misread k p q =
-    let z : 0 + least k ≡ least k = omega arith in
-    let m = first-half .adds (least k) (omega (arith, least-small k q)) in
-    let s = kept (rw z at m) in
-    let far : least k + 2 ^ (8 * bytesFor (2 * (least k - 0)) - 1) ≤ expectedOf (second-taken .world .receiver .largest) =
-    rw (largest-last, least-takes k p q) (omega (arith, least-small k q, pow-mono {i = 8 * k - 1} {j = 31} (omega arith))) in
+    let win = window-made k p q in
+    further-on win (omega (arith, least-small k win)) (fresh-passed k win _ (omega (arith, win)) (omega (arith, win)))
+
+-- ---- the bound of the third demand is the last: once the largest accepted number is there, a packet that is not near can be read as it was sent
+
+pub record Overtaken (k : ℕ) (w : World) (p : Packet) : Type 0 where
+  pub largest : w .receiver .largest ≡ at (2 ^ 62 - 2 ^ (8 * k - 1) - 1)
+  pub far : Near (w .accepted) (p .number) k → ⊥
+  pub rightly : AsSent w p
+
+-- of a packet with the first number of the last window
+overtaken-by : {w : World} → Reach w → {p : Packet} → List·Memᴰ p (w .sent) → (k : ℕ) → Window k → p .carries .0 ≡ k → p .number + windowOf k ≡ 2 ^ 62
+    → w .receiver .largest ≡ at (2 ^ 62 - 2 ^ (8 * k - 1) - 1)
+    → Overtaken k w p
+unfolding expectedOf Near
+overtaken-by {w} r {p} m k win takes n l =
+    let e = ap expectedOf l in
+    let i : LargestIn (at (2 ^ 62 - 2 ^ (8 * k - 1) - 1)) (w .accepted) = rw l at (largest-in r) in
     record {
-      world = second-taken .world;
-      reach = second-taken .reach;
-      packet = packet 0 (least k);
-      sent = s;
-      takes = least-takes k p q;
-      so = misread (second-taken .reach) s far;
+      largest = l;
+      far = λ near. omega (arith, win, n, near _ (i .0));
+      rightly = delivered r m .1 (inr (omega (arith, win, e), rw takes (omega (arith, n))));
     }
+
+overtaken-shown : {k n : ℕ} → Window k → n + windowOf k ≡ 2 ^ 62 → Shown k (Passed n (2 ^ (8 * k - 1) - 1)) → Shown k (Overtaken k)
+overtaken-shown {k} win end s =
+    claims s (overtaken-by (s .reach) (s .sent) k win (s .takes) (omega (arith, end, s .so .number)) (s .so .largest ∙ ap at (omega (arith, win, end))))
+
+-- the first number of the last window below 2^62, and half a window of numbers that overtake it
+pub runs-overtaken : (k : ℕ) → 1 ≤ k → k ≤ 4 → Shown k (Overtaken k)
+runs-overtaken k p q = go (window-made k p q) (2 ^ 62 - windowOf k - least k - 1) refl
+  where
+    up : Window k → {m : ℕ} → m ≡ 2 ^ 62 - windowOf k - least k - 1 → Paced freshWorld m → Shown k (Overtaken k)
+    up win is g =
+        let small = least-small k win in
+        overtaken-shown win (omega (arith, win, small, g .next))
+        (passed (g .reach) (heard-all g) k win _ (omega (arith, win)) (omega (arith, win, small, g .next)))
+
+    go : Window k → (m : ℕ) → m ≡ 2 ^ 62 - windowOf k - least k - 1 → Shown k (Overtaken k)
+    go win m is = up win is (up-to m (omega (arith, win)))
 
 -- ---- an acknowledgement shortens the next cut
 

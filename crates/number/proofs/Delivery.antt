@@ -1,23 +1,23 @@
--- On any line that invents nothing, a packet is read as it was sent exactly when the largest accepted number is near; and the
--- model does what the letter says of its ends.
+-- On any line that invents nothing, a packet is read as it was sent exactly when the largest accepted number is near, where that
+-- number is low; from there on when it is near; and the model does what the letter says of its ends.
 use Prim.Native.Nat.{ℕ, suc, _+_, _-_, _*_, _%_, _^_, _≤_, _<_}
 use mathlib.Core.Path.{_≡_, refl, sym, ap, _∙_}
 use mathlib.Core.List.{List, [], _∷_, List·Memᴰ, List·Memᴰ·head, List·Memᴰ·tail, List·Memᴰ·cases-cons, List·Memᴰ·not-nil}
-use mathlib.Core.Logic.{_↔_, ⊎-elim}
+use mathlib.Core.Logic.{_↔_, inl, ⊎-elim}
 use native.Mathlib.Omega.{arith}
 use native.Mathlib.Numerals.{add-one}
 use lib.ListN.{length}
 use borrow.Author.Tests.{lt-ltb, le-ltb}
 use Rattle.coding.specs.Words.{if_then_else_, ok}
 use Rattle.number.specs.Cutting.{windowOf}
-use Rattle.number.specs.Expanding.{nearestTo}
+use Rattle.number.specs.Expanding.{decodeA3}
 use Rattle.number.specs.Ends.{SoFar, none, at, baseOf, expectedOf, largerOf, Packet, done, acknowledgeBy, readBy, acceptBy}
-use Rattle.number.specs.Line.{World, freshWorld, LineStep, Reach, Near, Delivery}
+use Rattle.number.specs.Line.{World, freshWorld, LineStep, Reach, AsSent, Near, Low, Delivery}
 use Rattle.number.specs.Line.LineStep.{sends, accepts, acknowledges, hears}
 use Rattle.number.specs.Line.Reach.{start, next}
-use Rattle.number.proofs.Windows.{le?, Window, window-made, Fit}
+use Rattle.number.proofs.Windows.{le?, Window, window-made}
 use Rattle.number.proofs.Cuts.{CutIs, cut-kept}
-use Rattle.number.proofs.Readings.{read-back, overtaken, expanded-in}
+use Rattle.number.proofs.Readings.{Readable, read-exactly, expanded-in}
 use Rattle.number.proofs.Calls.{SendMade, send-yes, receive-yes, acknowledge-on, accept-on, send-is, acknowledge-is, accept-is, sent-made, acknowledged-made, larger}
 
 -- ---- what holds in every world that is reached
@@ -163,20 +163,30 @@ unfolding Near expectedOf
 near-is none l e n k h = (λ x. omega arith, λ x m i. absurd (not-in e i))
 near-is (at m) l (has, all) n k h = (λ x. omega (arith, x m has), λ x i y. omega (arith, all i y))
 
+-- low, as one too
+low-is : (s : SoFar) (l : List ℕ) → LargestIn s l → (k : ℕ) → Window k → Low l k → expectedOf s + 2 ^ (8 * k - 1) < 2 ^ 62
+unfolding Low expectedOf
+low-is none l e k win x = omega (arith, win)
+low-is (at m) l (has, all) k win x = omega (arith, x m has)
+
 -- what is read of a packet that was sent: it is never refused
 pub reads : {w : World} → Reach w → {p : Packet} → List·Memᴰ p (w .sent)
-    → ok (nearestTo (windowOf (p .carries .0)) (p .number % windowOf (p .carries .0)) (expectedOf (w .receiver .largest))) ≡ readBy (w .receiver) (p .carries)
+    → ok (decodeA3 (windowOf (p .carries .0)) (p .number % windowOf (p .carries .0)) (expectedOf (w .receiver .largest))) ≡ readBy (w .receiver) (p .carries)
 unfolding readBy
 reads {w} r {p} m =
     let i = inv r in
     let c = i .sent m in
     let e : ℕ = expectedOf (w .receiver .largest) in
-    ap (λ (v : ℕ). ok (nearestTo (windowOf (p .carries .0)) v e)) (sym (c .is .value)) ∙ expanded-in (p .carries) e (cut-kept (c .is)) (i .top)
+    ap (λ (v : ℕ). ok (decodeA3 (windowOf (p .carries .0)) v e)) (sym (c .is .value)) ∙ expanded-in (p .carries) e (cut-kept (c .is)) (i .top)
+
+-- the window of a packet that was sent
+window-sent : {w : World} → Reach w → {p : Packet} → List·Memᴰ p (w .sent) → Window (p .carries .0)
+window-sent r m = let f = inv r .sent m .is .fit in window-made _ (f .from) (f .high)
 
 -- by what the receiver expects
 pub delivered : {w : World} → Reach w → {p : Packet} → List·Memᴰ p (w .sent)
-    → (readBy (w .receiver) (p .carries) ≡ ok (p .number)) ↔ (expectedOf (w .receiver .largest) < p .number + 2 ^ (8 * p .carries .0 - 1))
-delivered {w} r {p} m = (forth, back)
+    → AsSent w p ↔ Readable (windowOf (p .carries .0)) (2 ^ (8 * p .carries .0 - 1)) (p .number) (expectedOf (w .receiver .largest))
+delivered {w} r {p} m = (λ q. exactly .0 (same q), λ x. sym (reads r m) ∙ ap (λ (y : ℕ). ok y) (exactly .1 x))
   where
     n : ℕ
     n = p .number
@@ -184,46 +194,49 @@ delivered {w} r {p} m = (forth, back)
     k : ℕ
     k = p .carries .0
 
-    h : ℕ
-    h = 2 ^ (8 * k - 1)
-
     e : ℕ
     e = expectedOf (w .receiver .largest)
 
     c : Cut e (w .sender .next) p
     c = inv r .sent m
 
-    f : Fit 1 k (2 * (n - c .base))
-    f = c .is .fit
-
     win : Window k
-    win = window-made k (f .from) (f .high)
+    win = window-sent r m
 
-    up : n ≤ e + h
-    up = omega (arith, win, f .above, c .low, c .is .down)
+    exactly : (decodeA3 (windowOf k) (n % windowOf k) e ≡ n) ↔ Readable (windowOf k) (2 ^ (8 * k - 1)) n e
+    exactly =
+        read-exactly (windowOf k) (2 ^ (8 * k - 1)) n e (win .twice) (omega (arith, win)) (2 ^ (62 - 8 * k)) (win .whole)
+        (omega (arith, c .is .top))
+        (inv r .top)
+        (omega (arith, win, c .is .fit .above, c .low, c .is .down))
 
-    pos : 0 < h
-    pos = omega (arith, win)
-
-    forth : readBy (w .receiver) (p .carries) ≡ ok n → e < n + h
-    forth q =
-        let same : ok (nearestTo (windowOf k) (n % windowOf k) e) ≡ ok n = reads r m ∙ q in
-        let is : nearestTo (windowOf k) (n % windowOf k) e ≡ n = cc in
-        ⊎-elim
-        (λ far. absurd (overtaken (windowOf k) h n e (win .twice) pos far is))
-        (λ near. near)
-        (le? (n + h) e)
-
-    back : e < n + h → readBy (w .receiver) (p .carries) ≡ ok n
-    back q =
-        sym (reads r m)
-        ∙ ap (λ (x : ℕ). ok x) (read-back (windowOf k) h n e (win .twice) pos up q)
+    same : AsSent w p → decodeA3 (windowOf k) (n % windowOf k) e ≡ n
+    same q = let s : ok (decodeA3 (windowOf k) (n % windowOf k) e) ≡ ok n = reads r m ∙ q in cc
 
 pub delivery : Delivery
-delivery w r p m =
-    let f = inv r .sent m .is .fit in
-    let near = near-is (w .receiver .largest) (w .accepted) (largest-in r) (p .number) (p .carries .0) (window-made (p .carries .0) (f .from) (f .high) .least) in
-    (λ q. near .1 (delivered r m .0 q), λ q. delivered r m .1 (near .0 q))
+delivery w r p m = (λ low. (λ q. near .1 (forth low (delivered r m .0 q)), back), back)
+  where
+    n : ℕ
+    n = p .number
+
+    k : ℕ
+    k = p .carries .0
+
+    e : ℕ
+    e = expectedOf (w .receiver .largest)
+
+    win : Window k
+    win = window-sent r m
+
+    near : Near (w .accepted) n k ↔ (e < n + 2 ^ (8 * k - 1))
+    near = near-is (w .receiver .largest) (w .accepted) (largest-in r) n k (win .least)
+
+    -- where the largest accepted number is low, a packet in the last window is near too
+    forth : Low (w .accepted) k → Readable (windowOf k) (2 ^ (8 * k - 1)) n e → e < n + 2 ^ (8 * k - 1)
+    forth low = ⊎-elim (λ x. x) (λ x. omega (arith, win, low-is (w .receiver .largest) (w .accepted) (largest-in r) k win low, x))
+
+    back : Near (w .accepted) n k → AsSent w p
+    back q = delivered r m .1 (inl (near .0 q))
 
 -- ---- the sender counts 0, 1, 2, and so on: the latest packet has the number of those before it
 

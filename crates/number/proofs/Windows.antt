@@ -54,10 +54,13 @@ pub record Window (k : ℕ) : Type 0 where
   pub twice : windowOf k ≡ 2 ^ (8 * k - 1) + 2 ^ (8 * k - 1)
   pub least : 128 ≤ 2 ^ (8 * k - 1)
   pub most : windowOf k ≤ 2 ^ 32
+  -- 2^62 is so many windows
+  pub whole : 2 ^ (62 - 8 * k) * windowOf k ≡ 2 ^ 62
 
 pub window-made : (k : ℕ) → 1 ≤ k → k ≤ 4 → Window k
 window-made k a b =
     let is = window-is k a b in
+    let e : 62 - 8 * k + 8 * k ≡ 62 = omega arith in
     record {
       low = a;
       high = b;
@@ -65,6 +68,7 @@ window-made k a b =
       twice = is ∙ doubled k a;
       least = pow-mono {i = 7} {j = 8 * k - 1} (omega arith);
       most = rw is (pow-mono {i = 8 * k} {j = 32} (omega arith));
+      whole = rw is (sym (pow-add 2 (62 - 8 * k) (8 * k)) ∙ ap (λ (m : ℕ). 2 ^ m) e);
     }
 
 -- a length with any value in its window is one of the four

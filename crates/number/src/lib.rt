@@ -19,7 +19,7 @@ ghost use Rattle.coding.specs.Bytes.{bytesBE};
 ghost use Rattle.coding.specs.Said.{wroteOf};
 ghost use Rattle.coding.specs.Writing.{Written, Put};
 ghost use Rattle.number.specs.Cutting.{windowOf, isCut, bytesFor, cutMade, cutTag, tagLength, cutOut, cutPut, cutRead};
-ghost use Rattle.number.specs.Expanding.{nearestTo, expanded};
+ghost use Rattle.number.specs.Expanding.{decodeA3, expanded};
 ghost use Rattle.number.specs.Said.{cutMadeOf, tagOf, fullOf};
 
 // A cut number, or a refusal.
@@ -174,18 +174,21 @@ pub fn tag(c: CutNumber) -> Tagged
     Tagged::Tag(less as u8)
 }
 
-// The number with this value in its last bytes that is nearest to the expected one.
+// The number with this value in its last bytes that is nearest to the expected one; a window that reaches 2^62 is not added (A.3).
 fn nearest(win: u64, value: u64, expected: u64) -> u64
     requires { ⌜ (value < win) × (win ≤ 2 ^ 32) × (expected ≤ numberEnd) ⌝ }
-    ensures { λ r. ⌜ r ≡ nearestTo win value expected ⌝ }
+    ensures { λ r. ⌜ r ≡ decodeA3 win value expected ⌝ }
 {
     let hwin = win / 2;
     let candidate = expected - expected % win + value;
     if candidate + hwin <= expected {
-        return candidate + win;
+        if candidate + win < NUMBER_END {
+            return candidate + win;
+        }
+        return candidate;
     }
     if expected + hwin < candidate {
-        if win < candidate {
+        if win <= candidate {
             return candidate - win;
         }
     }

@@ -14,8 +14,8 @@ use Rattle.coding.specs.Words.{if_then_else_, cut, got, andThen, Answer, no, ok
 use Rattle.coding.specs.Varint.{varAt}
 use Rattle.coding.specs.Writing.{Written}
 use Rattle.shared.specs.declared.kinds.CutNumber.{CutNumber}
-use Rattle.number.specs.Cutting.{windowOf, isCut}
-use Rattle.number.specs.Expanding.{nearestTo, expanded}
+use Rattle.number.specs.Cutting.{isCut}
+use Rattle.number.specs.Expanding.{expanded}
 use Rattle.timed.specs.Timed.{gatheredFrom, gathered, varsFrom, varsOf, writeRecord, flagged, Writes}
 use Rattle.timed.specs.declared.WriteAnswer.{WriteAnswer}
 
@@ -70,13 +70,12 @@ module _ (f : ℕ → Answer ℕ) (xs : List ℕ) (i mixed : ℕ) where
 -- a cut number that is not read back is refused 14
 pub only-14 : (c : CutNumber) (e k : ℕ) → expanded c e ≡ no k → expanded c e ≡ no 14
 unfolding expanded if_then_else_
-only-14 c e k = go (isCut c) (ltb (2 ^ 62) e)
+only-14 c e k = go (isCut c) (ltb (2 ^ 62) e) _
   where
-    go : (t u : Bool) → (if t then (if u then no 14 else ok (nearestTo (windowOf (c .0)) (c .1) e)) else no 14) ≡ no k
-        → (if t then (if u then no 14 else ok (nearestTo (windowOf (c .0)) (c .1) e)) else no 14) ≡ no 14
-    go true true h = refl
-    go true false h = let z : _≡_ {A = ℕ} 0 1 = cc in absurd (omega arith)
-    go false u h = refl
+    go : (t u : Bool) (n : ℕ) → (if t then (if u then no 14 else ok n) else no 14) ≡ no k → (if t then (if u then no 14 else ok n) else no 14) ≡ no 14
+    go true true n h = refl
+    go true false n h = let z : _≡_ {A = ℕ} 0 1 = cc in absurd (omega arith)
+    go false u n h = refl
 
 -- ---- writers
 

@@ -29,12 +29,18 @@ pub const NCID_OUT: &str = "ncid-out";
 pub const STREAM_END: &str = "stream-end";
 pub const MAX_LEN: &str = "max-len";
 pub const CLOSE_CODE: &str = "close-code";
+pub const CEILING: &str = "ceiling";
 pub const VERSION_2: &str = "version-2";
 
 /// What the paper answers, and the difference's name.
 pub struct Decided {
     pub answer: String,
     pub name: &'static str,
+}
+
+/// What stands behind an answer that is not the Rust's.
+pub fn mark_if(is_other: bool, name: &str) -> String {
+    if is_other { format!(" # {name}") } else { String::new() }
 }
 
 pub fn decided(name: &'static str, answer: String) -> Option<Decided> {

@@ -1,4 +1,4 @@
-use Rattle.number.proofs.Readings.{nearest-next, nearest-here, nearest-before, nearest-first}
+use Rattle.number.proofs.Readings.{a3-next, a3-top, a3-here, a3-before, a3-first}
 use native.Mathlib.Omega.{arith}
 use native.Mathlib.Nat.{mod-le}
 use borrow.Author.Needs.{needs}
@@ -17,26 +17,29 @@ add-candidate c = search needs
 add-if1 : tie.Need-add-if1
 add-if1 c = search needs
 
+add-if2 : tie.Need-add-if2
+add-if2 c = search needs
+
 add-result : tie.Need-add-result
 add-result c = search needs
 
 returns : tie.Need-returns
-returns c = nearest-next _ _ _ (omega arith)
-
-add-if2 : tie.Need-add-if2
-add-if2 c = search needs
-
-sub-result : tie.Need-sub-result
-sub-result c = search needs
+returns c = a3-next _ _ _ (omega arith) (omega arith)
 
 returns-2 : tie.Need-returns-2
-returns-2 c = nearest-before _ _ _ (omega arith) (omega arith)
+returns-2 c = a3-top _ _ _ (omega arith) (omega arith)
+
+add-if3 : tie.Need-add-if3
+add-if3 c = search needs
 
 returns-3 : tie.Need-returns-3
-returns-3 c = nearest-first _ _ _ (omega arith) (omega arith)
+returns-3 c = a3-before _ _ _ (omega arith) (omega arith)
 
 returns-4 : tie.Need-returns-4
-returns-4 c = nearest-here _ _ _ (omega arith) (omega arith)
+returns-4 c = a3-first _ _ _ (omega arith) (omega arith)
+
+returns-5 : tie.Need-returns-5
+returns-5 c = a3-here _ _ _ (omega arith) (omega arith)
 
 pub nearest-spec : {M : Type 1} → statement M
 nearest-spec =
@@ -46,10 +49,11 @@ nearest-spec =
     sub-candidate
     add-candidate
     add-if1
+    add-if2
     add-result
     returns
-    add-if2
-    sub-result
     returns-2
+    add-if3
     returns-3
-    returns-4)
+    returns-4
+    returns-5)

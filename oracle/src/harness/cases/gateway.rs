@@ -194,14 +194,14 @@ fn of_surface(emit: &mut dyn FnMut(String), line: &str) {
 /// Every step with ends and numbers at their edges.
 fn numbers(emit: &mut dyn FnMut(String)) {
     let nexts = [0, 1, 128, 1 << 15, 1 << 23, (1 << 31) + 1, END - 1, END, END + 1, u64::MAX];
-    let largests = [0, 300, END - 1, END];
+    let largests = [0, 300, END - 2, END - 1, END];
     for (next, largest) in nexts.into_iter().flat_map(|next| largests.map(|largest| (next, largest))) {
         for (acked, flags) in [0, 1, next.wrapping_sub(1)].into_iter().flat_map(|a| (0..9).map(move |f| (a, f))) {
             let ends = format!("{next},{acked},{largest},{},{}", flags / 3, flags % 3);
             for n in [0, 1, next.wrapping_sub(1), next, END - 1, END] {
                 (1..4).step_by(2).for_each(|step| emit(format!("gnumber {step} {n} 9 9 {ends}")));
             }
-            for (k, value) in [(0, 0), (1, 255), (1, 256), (2, 1), (3, 1 << 24), (4, 77), (5, 0)] {
+            for (k, value) in [(0, 0), (1, 0), (1, 255), (1, 256), (2, 1), (3, 1 << 24), (4, 77), (5, 0)] {
                 emit(format!("gnumber 2 9 {k} {value} {ends}"));
             }
             [0, 4, 255].iter().for_each(|step| emit(format!("gnumber {step} 9 9 9 {ends}")));

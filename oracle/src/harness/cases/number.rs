@@ -203,6 +203,7 @@ pub fn exhaust(emit: &mut dyn FnMut(String)) {
     (0..=0xff).for_each(|tag| emit(format!("pnlen {tag}")));
     cutting(emit);
     reading(emit);
+    ceiling(emit);
     for k in 0..6 {
         for value in values(k) {
             emit(format!("pntag {k} {value}"));
@@ -238,6 +239,25 @@ fn reading(emit: &mut dyn FnMut(String)) {
         for value in values(k) {
             for expected in edges().into_iter().chain(0..40) {
                 emit(format!("pnexp {k} {value} {expected}"));
+            }
+        }
+    }
+}
+
+/// The last three windows below 2^62. For one byte every expected number with every value; for more bytes the numbers around the
+/// end of each window and of its half, with the values there and half a window off.
+fn ceiling(emit: &mut dyn FnMut(String)) {
+    for expected in END - 3 * window(1)..=END {
+        (0..window(1)).for_each(|value| emit(format!("pnexp 1 {value} {expected}")));
+    }
+    for k in 1..=4 {
+        let half = window(k) / 2;
+        for expected in (0..=6).flat_map(|i| (0..5).map(move |d| END + d - 2 - i * half)).filter(|e| *e <= END) {
+            let near = (0..5).flat_map(|d| [expected + d - 2, expected + d - 2 + half]);
+            for value in near.chain([0, 1, half - 1, half, half + 1, window(k) - 1]).map(|n| n % window(k)) {
+                emit(format!("pnexp {k} {value} {expected}"));
+                let steps = [(SET_LARGEST, expected - 1, 1), (READ, k, value as u32)];
+                emit(format!("ends {}", packed(&steps)));
             }
         }
     }

@@ -1,6 +1,8 @@
-//! The two number ends: a model, from document 01. quinn has no such record; only the cut and the reading are its own.
+//! The two number ends: a model, from document 01. quinn has no such record; the cut is its own, and the reading, but where
+//! request 04 follows A.3.
 use super::super::PacketNumber;
-use super::number::{held, is_cut, sent};
+use super::number::{is_cut, read, sent};
+use crate::harness::differences::{CEILING, mark_if};
 use crate::harness::rng::END;
 use crate::harness::words::{Args, Bad};
 
@@ -21,18 +23,23 @@ pub(crate) fn ends(a: &mut Args, out: &mut String) -> Result<(), Bad> {
         return Err(Bad);
     }
     let mut ends = Ends::default();
+    let mut is_other = false;
     for step in steps.chunks(STEP) {
         let n = u64::from_be_bytes(step[1..9].try_into().unwrap());
         let v = u32::from_be_bytes(step[9..].try_into().unwrap());
         match ends.step(step[0], n, v)? {
             Ok(Said::Set) => out.push_str("set"),
             Ok(Said::Kept) => out.push_str("ok"),
-            Ok(Said::Read(n)) => *out += &format!("ok {n}"),
+            Ok(Said::Read(n, other)) => {
+                *out += &format!("ok {n}");
+                is_other |= other;
+            }
             Ok(Said::Sent(n, k, value)) => *out += &format!("ok {n} {k} {value}"),
             Err(why) => *out += &format!("no {why}"),
         }
         *out += &format!(" : {} {} {};", ends.next, shown(ends.acked), shown(ends.largest));
     }
+    *out += &mark_if(is_other, CEILING);
     Ok(())
 }
 
@@ -40,11 +47,12 @@ fn shown(n: Option<u64>) -> String {
     n.map_or("-".into(), |n| n.to_string())
 }
 
-/// What a step says: nothing but that it was done, the number that was read, or that was sent and what of it goes out.
+/// What a step says: nothing but that it was done; the number that was read, and whether the Rust reads another; the one that
+/// was sent, and what of it goes out.
 pub(super) enum Said {
     Set,
     Kept,
-    Read(u64),
+    Read(u64, bool),
     Sent(u64, usize, u32),
 }
 
@@ -110,7 +118,8 @@ impl Ends {
             return Err(14);
         }
         let expected = self.largest.map_or(0, |m| m + 1);
-        Ok(Said::Read(held(k, value).expand(expected)))
+        let (n, is_other) = read(k, value, expected);
+        Ok(Said::Read(n, is_other))
     }
 
     fn accept(&mut self, n: u64) -> Answer {

@@ -9,7 +9,7 @@ use super::reading::{MAX_DATAGRAM, Reader, Taken, number, sampled};
 use super::version_2::{self, Types};
 use super::writing::{Refused, Step, Words, after_length};
 use crate::crypto::MaskKey;
-use crate::harness::differences::{FORM_BIT, SHORT_BUFFER, SIZE_65527, decided, settle};
+use crate::harness::differences::{CEILING, FORM_BIT, SHORT_BUFFER, SIZE_65527, decided, mark_if, settle};
 use crate::harness::table::KINDS;
 use crate::harness::words::{Args, Bad, record};
 
@@ -198,13 +198,15 @@ pub(crate) fn gnumber(a: &mut Args, out: &mut String) -> Result<(), Bad> {
     let said = if has_acked.max(has_largest) > 1 { Err(14) } else { ends.call(step, n, k, value) };
     let has = |n: Option<u64>| u64::from(n.is_some());
     let after = [ends.next, ends.acked.unwrap_or(0), ends.largest.unwrap_or(0), has(ends.acked), has(ends.largest)];
+    let is_other = matches!(said, Ok(Said::Read(_, true)));
     let (answer, ends) = match said {
         Err(why) => ([why.into(), 0, 0, 0], given),
-        Ok(Said::Read(n)) => ([0, 0, 0, n], given),
+        Ok(Said::Read(n, _)) => ([0, 0, 0, n], given),
         Ok(Said::Sent(n, k, value)) => ([0, value.into(), k as u64, n], after),
         Ok(Said::Kept | Said::Set) => ([0, 0, 0, 0], after),
     };
     *out += &record(&[&answer[..], &ends].concat(), &[]);
+    *out += &mark_if(is_other, CEILING);
     Ok(())
 }
 

@@ -1,6 +1,8 @@
 //! PacketNumber.
 use super::super::*;
-use crate::harness::differences::{CUT_RULE, Decided, NUMBER_62, NUMBER_TOO_FAR, U24_FOURTH_BYTE, decided, settle};
+use crate::harness::differences::{
+    CEILING, CUT_RULE, Decided, NUMBER_62, NUMBER_TOO_FAR, U24_FOURTH_BYTE, decided, mark_if, settle,
+};
 use crate::harness::leaf::{no_room, written};
 use crate::harness::rng::END;
 use crate::harness::words::{Args, Bad, hex};
@@ -72,8 +74,7 @@ pub(crate) fn pnnew(a: &mut Args, out: &mut String) -> Result<(), Bad> {
 fn new(n: u64, acked: u64) -> String {
     let p = PacketNumber::new(n, acked);
     let (len, value) = sent(p);
-    let mark = if raw(p) == value { String::new() } else { format!(" # {U24_FOURTH_BYTE}") };
-    format!("ok {len} {value}{mark}")
+    format!("ok {len} {value}{}", mark_if(raw(p) != value, U24_FOURTH_BYTE))
 }
 
 /// pnexp K VALUE EXPECTED
@@ -84,8 +85,34 @@ pub(crate) fn pnexp(a: &mut Args, out: &mut String) -> Result<(), Bad> {
     } else {
         outside(k, value, "no 14".into())
     };
-    settle(out, paper, || format!("ok {}", held(k, value).expand(expected)));
+    settle(out, paper, || {
+        let (n, is_other) = read(k, value, expected);
+        format!("ok {n}{}", mark_if(is_other, CEILING))
+    });
     Ok(())
+}
+
+/// What is read, by A.3, and whether the Rust reads another number.
+pub(super) fn read(k: u64, value: u32, expected: u64) -> (u64, bool) {
+    let n = decode_packet_number(k, value, expected);
+    (n, n != held(k, value).expand(expected))
+}
+
+/// RFC 9000, A.3, in its words and order. Its differences can be below zero.
+fn decode_packet_number(k: u64, value: u32, expected: u64) -> u64 {
+    let (truncated_pn, expected_pn, pn_nbits) = (i64::from(value), expected as i64, 8 * k);
+    let pn_win = 1i64 << pn_nbits;
+    let pn_hwin = pn_win / 2;
+    let pn_mask = pn_win - 1;
+    let candidate_pn = (expected_pn & !pn_mask) | truncated_pn;
+    let pn = if candidate_pn <= expected_pn - pn_hwin && candidate_pn < (1 << 62) - pn_win {
+        candidate_pn + pn_win
+    } else if candidate_pn > expected_pn + pn_hwin && candidate_pn >= pn_win {
+        candidate_pn - pn_win
+    } else {
+        candidate_pn
+    };
+    pn as u64
 }
 
 /// pndec K B4
