@@ -2,7 +2,7 @@
 -- ceiling one that is read as it was sent though it is not near; and an acknowledgement that shortens the next cut.
 use Prim.Native.Nat.{ℕ, suc, _+_, _-_, _*_, _/_, _^_, _≤_, _<_}
 use mathlib.Core.Path.{_≡_, refl, sym, ap, _∙_}
-use mathlib.Core.List.{List·Memᴰ}
+use mathlib.Core.List.{[], _∷_, List·Memᴰ, List·Memᴰ·cases-cons, List·Memᴰ·not-nil}
 use mathlib.Core.Logic.{inl, inr, ⊎-elim}
 use native.Mathlib.Nat.{two-pow-succ, one-le-pow}
 use native.Mathlib.Omega.{arith}
@@ -10,7 +10,7 @@ use lib.Pow.{pow-mono}
 use Rattle.coding.specs.Words.{if_then_else_, ok}
 use Rattle.number.specs.Cutting.{cut, windowOf, bytesFor}
 use Rattle.number.specs.Ends.{SoFar, none, at, Ends, baseOf, expectedOf, largerOf, Call, Packet, sendBy, readBy}
-use Rattle.number.specs.Line.{World, freshWorld, LineStep, Reach, AsSent, Near}
+use Rattle.number.specs.Line.{World, freshWorld, LineStep, Reach, AsSent, Near, Low}
 use Rattle.number.specs.Line.LineStep.{hears}
 use Rattle.number.specs.Line.Reach.{start, next}
 use Rattle.number.proofs.Windows.{Window, window-made, bytes-are}
@@ -183,6 +183,9 @@ runs-misread k p q =
 
 pub record Overtaken (k : ℕ) (w : World) (p : Packet) : Type 0 where
   pub largest : w .receiver .largest ≡ at (2 ^ 62 - 2 ^ (8 * k - 1) - 1)
+  -- it is the first number that is not low
+  pub high : Low (w .accepted) k → ⊥
+  pub last-low : Low ((2 ^ 62 - 2 ^ (8 * k - 1) - 2) ∷ []) k
   pub far : Near (w .accepted) (p .number) k → ⊥
   pub rightly : AsSent w p
 
@@ -190,12 +193,14 @@ pub record Overtaken (k : ℕ) (w : World) (p : Packet) : Type 0 where
 overtaken-by : {w : World} → Reach w → {p : Packet} → List·Memᴰ p (w .sent) → (k : ℕ) → Window k → p .carries .0 ≡ k → p .number + windowOf k ≡ 2 ^ 62
     → w .receiver .largest ≡ at (2 ^ 62 - 2 ^ (8 * k - 1) - 1)
     → Overtaken k w p
-unfolding expectedOf Near
+unfolding expectedOf Near Low
 overtaken-by {w} r {p} m k win takes n l =
     let e = ap expectedOf l in
     let i : LargestIn (at (2 ^ 62 - 2 ^ (8 * k - 1) - 1)) (w .accepted) = rw l at (largest-in r) in
     record {
       largest = l;
+      high = λ low. omega (arith, win, low _ (i .0));
+      last-low = λ m x. ⊎-elim (λ y. omega (arith, win, y)) (λ y. absurd (List·Memᴰ·not-nil y)) (List·Memᴰ·cases-cons x);
       far = λ near. omega (arith, win, n, near _ (i .0));
       rightly = delivered r m .1 (inr (omega (arith, win, e), rw takes (omega (arith, n))));
     }

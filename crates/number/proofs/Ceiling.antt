@@ -105,27 +105,20 @@ module _ (w v e : ℕ) where
         (le? (e / w) 0)
 
     pub a3-agrees : (Ceiling → ⊥) → nearestTo w v e ≡ decodeA3 w v e
-    unfolding nearestTo decodeA3 if_then_else_
+    unfolding nearestTo if_then_else_
     a3-agrees room =
-        ⊎-elim
-        (λ a.
-        ⊎-elim
-        (λ f. absurd (room (a, f)))
-        (λ f. simp (le-leb (c + w / 2) e a, lt-ltb (c + w) (2 ^ 62) f))
-        (le? (2 ^ 62) (c + w)))
-        (λ a.
-        ⊎-elim
-        (λ b. simp (lt-leb (c + w / 2) e a, le-ltb (e + w / 2) c b))
-        (λ b.
-        ⊎-elim
-        (λ d. simp (lt-leb (c + w / 2) e a, lt-ltb (e + w / 2) c b, le-ltb w c d, lt-leb w c (not-whole b d)))
-        (λ d. simp (lt-leb (c + w / 2) e a, lt-ltb (e + w / 2) c b, lt-ltb w c d, le-leb w c (omega arith)))
-        (le? c w))
-        (le? c (e + w / 2)))
-        (le? (c + w / 2) e)
+        a3-cases w v e
+        (λ a t q. let n : nearestTo w v e ≡ c + w = simp (le-leb (c + w / 2) e a) in n ∙ q)
+        (λ a t q. absurd (room (a, t)))
+        (λ a b q. let n : nearestTo w v e ≡ c = simp (lt-leb (c + w / 2) e a, le-ltb (e + w / 2) c b) in n ∙ q)
+        (λ b d q. let n : nearestTo w v e ≡ c - w = simp (lt-leb (c + w / 2) e (omega arith), lt-ltb (e + w / 2) c b, lt-ltb w c (more b d)) in n ∙ q)
+        (λ b d q. let n : nearestTo w v e ≡ c = simp (lt-leb (c + w / 2) e (omega arith), lt-ltb (e + w / 2) c b, le-ltb w c (omega arith)) in n ∙ q)
       where
         c : ℕ
         c = candidate w v e
+
+        more : e + w / 2 < c → w ≤ c → w < c
+        more b d = ⊎-elim (λ x. absurd (omega (arith, not-whole b x))) (λ x. x) (le? c w)
 
   -- there the Rust adds the window, and A.3 leaves the candidate as it is
   pub a3-differs : Ceiling → (nearestTo w v e ≡ candidate w v e + w) × (decodeA3 w v e ≡ candidate w v e)
