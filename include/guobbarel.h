@@ -15,6 +15,9 @@
  *     other thread touches it during the call;
  *   - the list of versions is aligned as uint32_t is;
  *   - the machine is x86-64 with the System V calling convention: the archive has code for no other.
+ *
+ * A break of the ABI: guobbarel_number_step takes the packet's kind and a record of three number spaces, and answers that record
+ * (`spaces` in place of `ends`). What was compiled against an older header must be compiled anew.
  */
 #ifndef GUOBBAREL_H
 #define GUOBBAREL_H
@@ -191,9 +194,16 @@ typedef struct guobbarel_number_ends {
     uint8_t has_largest; /* 0 or 1 */
 } guobbarel_number_ends;
 
+/* The three spaces of a connection (RFC 9000, 12.3). All 0 is a fresh one. */
+typedef struct guobbarel_number_spaces {
+    guobbarel_number_ends initial;   /* of Initial packets */
+    guobbarel_number_ends handshake; /* of Handshake packets */
+    guobbarel_number_ends data;      /* of 0-RTT and short packets */
+} guobbarel_number_spaces;
+
 enum guobbarel_step {
     GUOBBAREL_SEND = 0,        /* uses up the next number: answers it and what of it the packet carries */
-    GUOBBAREL_ACKNOWLEDGE = 1, /* `number` was acknowledged; one that was not sent is 14 */
+    GUOBBAREL_ACKNOWLEDGE = 1, /* `number` was acknowledged; one that was not sent in this space is 14 */
     GUOBBAREL_READ = 2,        /* answers the full number of number_len and number_value, and changes nothing. It is below 2^62,
                                   unless 2^62 - 1 was accepted; an accept refuses what is not */
     GUOBBAREL_ACCEPT = 3       /* `number` was accepted; one above 2^62 - 1 is 14 */
@@ -201,21 +211,25 @@ enum guobbarel_step {
 
 typedef struct guobbarel_number_answer {
     uint8_t refusal;
-    uint32_t number_value;      /* of a send: the cut number, and its length in bytes, 1 to 4 */
+    uint32_t number_value;          /* of a send: the cut number, and its length in bytes, 1 to 4 */
     uint64_t number_len;
-    uint64_t number;            /* of a send and of a read: the full number */
-    guobbarel_number_ends ends; /* the ends afterwards; after a refusal and a read as they came. After the other steps a number
-                                   whose flag is 0 comes back as 0 */
+    uint64_t number;                /* of a send and of a read: the full number */
+    guobbarel_number_spaces spaces; /* the spaces afterwards: all as they came after a refusal and a read, and after the other
+                                       steps those of other kinds. In the kind's a number whose flag is 0 then comes back as 0 */
 } guobbarel_number_answer;
 
-/* One step of the ends. What a step does not use (`number` or the cut number) is not looked at. Refused 14 for a step above 3,
- * either flag not 0 or 1, and a number or cut number outside its rule; a send then 16 where the next number is 2^31 or more above
- * the largest acknowledged (0 when none).
+/* One step in the space of a kind of packet: `kind` is the packet's, as split answered it; for an acknowledgement that of the
+ * packet that carried it, since it speaks of its own space. Refused 14, whatever the step, for Retry and Version Negotiation, which
+ * have no number, and for a kind above 5. Of the two spaces of other kinds nothing is looked at, no flag either, and every field
+ * comes back as it came.
+ * What a step does not use (`number` or the cut number) is not looked at. Refused 14 for a step above 3, either flag of the kind's
+ * space not 0 or 1, and a number or cut number outside its rule; a send then 16 where the next number is 2^31 or more above the
+ * largest acknowledged (0 when none).
  * Ends that no steps can have made are refused 14 too, but only in the half that the step looks at: a send and an acknowledge look
  * at `next` and `acked` (14 for a next above 2^62, and for an acked number that is not below next), a read and an accept at
  * `largest` (14 above 2^62 - 1). The other half is not judged. A send of next = 2^62 is 14: all numbers are used up. */
-guobbarel_number_answer guobbarel_number_step(uint8_t step, guobbarel_number_ends ends, uint64_t number, size_t number_len,
-                                              uint32_t number_value);
+guobbarel_number_answer guobbarel_number_step(uint8_t step, uint8_t kind, guobbarel_number_spaces spaces, uint64_t number,
+                                              size_t number_len, uint32_t number_value);
 
 /* ---- packets out ---- */
 
@@ -329,12 +343,17 @@ GUOBBAREL_FIELD(number_ends, largest, 16, 8);
 GUOBBAREL_FIELD(number_ends, has_acked, 24, 1);
 GUOBBAREL_FIELD(number_ends, has_largest, 25, 1);
 
-GUOBBAREL_RECORD(number_answer, 56);
+GUOBBAREL_RECORD(number_spaces, 96);
+GUOBBAREL_FIELD(number_spaces, initial, 0, 32);
+GUOBBAREL_FIELD(number_spaces, handshake, 32, 32);
+GUOBBAREL_FIELD(number_spaces, data, 64, 32);
+
+GUOBBAREL_RECORD(number_answer, 120);
 GUOBBAREL_FIELD(number_answer, refusal, 0, 1);
 GUOBBAREL_FIELD(number_answer, number_value, 4, 4);
 GUOBBAREL_FIELD(number_answer, number_len, 8, 8);
 GUOBBAREL_FIELD(number_answer, number, 16, 8);
-GUOBBAREL_FIELD(number_answer, ends, 24, 32);
+GUOBBAREL_FIELD(number_answer, spaces, 24, 96);
 
 GUOBBAREL_RECORD(header, 24);
 GUOBBAREL_FIELD(header, kind, 0, 1);

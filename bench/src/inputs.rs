@@ -202,3 +202,23 @@ pub fn three_packets() -> Vec<u8> {
 pub fn handshakes(count: usize) -> Vec<u8> {
     long(0xe3, false, 100).repeat(count)
 }
+
+/// A step of the number ends.
+#[derive(Clone, Copy)]
+pub enum Step {
+    Send,
+    Acknowledge(u64),
+    Read(usize, u32),
+    Accept(u64),
+}
+
+/// So many steps, each with its space: in turn each space sends a number, from `next` on, hears that it was acknowledged, and reads and
+/// accepts one like it, cut to two bytes.
+pub fn steps(count: usize, next: u64) -> Vec<(usize, Step)> {
+    let step = |i: usize| {
+        let n = next + (i / 12) as u64;
+        let all = [Step::Send, Step::Acknowledge(n), Step::Read(2, n as u16 as u32), Step::Accept(n)];
+        (i % 3, all[i / 3 % 4])
+    };
+    (0..count).map(step).collect()
+}

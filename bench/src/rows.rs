@@ -2,9 +2,9 @@
 mod timed;
 
 use crate::clock::{Sides, Tally, plain, prepared};
-use crate::inputs::{self, CID, LOCAL, LONGEST, MASK, VERSIONS, Widths};
+use crate::inputs::{self, CID, LOCAL, LONGEST, MASK, Step, VERSIONS, Widths};
 use crate::place::{Appended, Room};
-use guobbarel::{CutNumber, Ends, Frame, Frames, FullNumber, Header, Kind, Packets, Written, unmask};
+use guobbarel::{CutNumber, Ends, Frame, Frames, FullNumber, Header, Kind, Packets, Spaces, Written, unmask};
 use oracle::bench as rust;
 use oracle::crypto::MaskKey;
 use std::hint::black_box;
@@ -294,21 +294,60 @@ fn whole() -> Rows {
 fn numbers() -> Rows {
     let (next, acked, accepted) = (1_000_100, 1_000_000, 1_000_000);
     let ends = Ends::from_parts(FullNumber::new(next), Some(FullNumber::new(acked)), Some(FullNumber::new(accepted)));
+    let spaces = Spaces::from_parts(ends, ends, ends);
     let sent = plain(move || {
-        let mut ends = black_box(ends);
-        let sent = ends.send().ok()?;
-        black_box(&ends);
+        let mut spaces = black_box(spaces);
+        let sent = spaces.send(Kind::Short).ok()?;
+        black_box(&spaces);
         Some((sent.cut.len() as u64, sent.number.get()))
     });
     let number = CutNumber::new(CUT.0, CUT.1);
     let read = plain(move || {
-        let full = black_box(&ends).read(black_box(number)).ok()?;
+        let full = black_box(&spaces).read(Kind::Short, black_box(number)).ok()?;
         Some((number.len() as u64, full.get()))
     });
     let mut rows = timed::numbers(acked, accepted + 1)?;
-    rows.push(row(NUMBERS, "send, a step of the number ends".into(), [0, 0], Sides::plain([sent]))?);
-    rows.push(row(NUMBERS, "read, a step of the number ends".into(), [0, 0], Sides::plain([read]))?);
+    rows.push(row(NUMBERS, "send, a step in one of three spaces".into(), [0, 0], Sides::plain([sent]))?);
+    rows.push(row(NUMBERS, "read, a step in one of three spaces".into(), [0, 0], Sides::plain([read]))?);
+    rows.push(stepped(spaces, rust::Ends::new(next, acked, accepted), next)?);
     Ok(rows)
+}
+
+/// A thousand steps, over Initial, Handshake and Data.
+fn stepped(spaces: Spaces, plainly: rust::Ends, next: u64) -> Result<Row, String> {
+    const KINDS: [Kind; 3] = [Kind::Initial, Kind::Handshake, Kind::Short];
+    let steps = inputs::steps(1000, next);
+    let theirs: Vec<(usize, rust::Step)> = steps.iter().map(|&(space, step)| (space, of_the_rust(step))).collect();
+    let steps: Vec<(Kind, Step)> = steps.into_iter().map(|(space, step)| (KINDS[space], step)).collect();
+    let sizes = [0, steps.len()];
+    let ours = plain(move || {
+        let (mut spaces, mut mixed) = (black_box(spaces), 0);
+        for (kind, step) in black_box(&steps) {
+            mixed ^= take(&mut spaces, *kind, *step)?;
+        }
+        Some((steps.len() as u64, mixed))
+    });
+    let theirs = plain(move || Some(black_box(plainly).take(black_box(&theirs))));
+    row(NUMBERS, "steps over three spaces: send, acknowledge, read, accept".into(), sizes, Sides::plain([ours, theirs]))
+}
+
+/// What a step says, as the Rust's side has it.
+fn take(spaces: &mut Spaces, kind: Kind, step: Step) -> Option<u64> {
+    match step {
+        Step::Send => spaces.send(kind).ok().map(|sent| u64::from(sent.cut.value()) | (sent.cut.len() as u64) << 32),
+        Step::Acknowledge(n) => spaces.acknowledge(kind, FullNumber::new(n)).ok().map(|()| 0),
+        Step::Read(len, value) => spaces.read(kind, CutNumber::new(len, value)).ok().map(FullNumber::get),
+        Step::Accept(n) => spaces.accept(kind, FullNumber::new(n)).ok().map(|()| 0),
+    }
+}
+
+fn of_the_rust(step: Step) -> rust::Step {
+    match step {
+        Step::Send => rust::Step::Send,
+        Step::Acknowledge(n) => rust::Step::Acknowledge(n),
+        Step::Read(len, value) => rust::Step::Read(rust::Cut::new(len as u64, value)),
+        Step::Accept(n) => rust::Step::Accept(n),
+    }
 }
 
 /// The points of the plot: for each of four operations its inputs, from small to large.

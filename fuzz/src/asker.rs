@@ -127,8 +127,9 @@ impl Asker {
         let mut lines = String::new();
         for (op, operation) in &self.tally.operations {
             lines += &format!("operation\t{op}\t{}\t{}\n", operation.asked, operation.not_asked);
-            classes::all(op).for_each(|class| lines += &format!("class\t{op}\t{class}\t{}\n", of(operation, class)));
-            let unknown = operation.classes.keys().filter(|class| classes::all(op).all(|known| known != *class));
+            let known = classes::all(op);
+            known.iter().for_each(|class| lines += &format!("class\t{op}\t{class}\t{}\n", of(operation, class)));
+            let unknown = operation.classes.keys().filter(|class| !known.contains(class));
             unknown.for_each(|class| lines += &format!("unknown\t{op}\t{class}\n"));
         }
         self.tally.marks.iter().for_each(|(mark, n)| lines += &format!("mark\t{mark}\t{n}\n"));

@@ -1,18 +1,18 @@
 //! The C functions themselves, asked what a case asks, over bytes that end at a fence; and asked with a value that the safe crate cannot
 //! pass, which must be refused. What an answer does not have must be 0.
 use crate::clean::{
-    INITIAL, NO_ARGUMENT, NO_PACKET, SHORT, VERSION_NEGOTIATION, has_number, is_clean_frame, is_clean_header,
-    is_clean_number, is_clean_split, is_empty,
+    HANDSHAKE, INITIAL, NO_ARGUMENT, NO_PACKET, SHORT, VERSION_NEGOTIATION, ZERO_RTT, has_number, is_clean_frame,
+    is_clean_header, is_clean_number, is_clean_split, is_empty, space_of, with,
 };
 use crate::fence::Fence;
-use crate::ffi::{self, HeaderGiven, NumberEnds, UnmaskAnswer};
+use crate::ffi::{self, HeaderGiven, NumberAnswer, NumberEnds, NumberSpaces, UnmaskAnswer};
 use guobbarel::Frames;
 use oracle::harness::words::{Args, Bad};
 use std::io;
 
 const KINDS: [&str; 6] = ["initial", "0rtt", "handshake", "retry", "short", "vneg"];
-/// The bytes of a step of the number ends.
-const STEP: usize = 13;
+/// The bytes of a step of the number ends that names its kind.
+const STEP: usize = 14;
 
 /// What is lent, each behind its own fence.
 pub struct Bare {
@@ -42,7 +42,7 @@ impl Bare {
             "sample" => self.sample(a, odd),
             "finish" => self.unmask(a, odd),
             "frames" => self.frames(a),
-            "ends" => ends(a, odd),
+            "spaces" => spaces(a, odd),
             "henc" => self.header(a, odd),
             "hmask" => self.mask(a, odd),
             _ => Ok(true),
@@ -147,6 +147,20 @@ impl Odd {
         [least, least + 1, u8::MAX][self.0 % 3]
     }
 
+    /// Spaces as no step leaves them: flags that are none, numbers beside a flag of 0, numbers past 2^62.
+    fn spaces(self) -> NumberSpaces {
+        let ends = |next, acked, largest, [has_acked, has_largest]: [u8; 2]| NumberEnds {
+            next,
+            acked,
+            largest,
+            has_acked,
+            has_largest,
+        };
+        let all = [ends(7, 8, 9, [2, 255]), ends(5, 9, 9, [0, 0]), ends(u64::MAX, 1 << 62, u64::MAX, [1, 1])];
+        let [initial, handshake, data] = [0, 1, 2].map(|i| all[(self.0 + i) % 3]);
+        NumberSpaces { initial, handshake, data }
+    }
+
     /// A mask that is too short.
     fn mask(self, mask: &[u8; 5]) -> &[u8] {
         &mask[..self.0 % 5]
@@ -172,31 +186,79 @@ fn header(a: &mut Args) -> Result<HeaderGiven, Bad> {
     Ok(given)
 }
 
-/// Each step of a run; then a step that is none, and flags that are none.
-fn ends(a: &mut Args, odd: Odd) -> Result<bool, Bad> {
-    let mut now = NumberEnds { next: 0, acked: 0, largest: 0, has_acked: 0, has_largest: 0 };
-    let mut holds = true;
-    for bytes in a.bytes()?.chunks_exact(STEP) {
+/// A step of the number ends.
+#[derive(Clone, Copy)]
+struct Step {
+    step: u8,
+    kind: u8,
+    n: u64,
+    v: u32,
+}
+
+impl Step {
+    fn of(bytes: &[u8]) -> Self {
         let number = |bytes: &[u8]| bytes.iter().fold(0, |x, &b| x << 8 | u64::from(b));
-        let (step, n, v) = (bytes[0], number(&bytes[1..9]), number(&bytes[9..]) as u32);
-        match step {
-            4 => now.next = n,
-            5 => (now.acked, now.has_acked) = (n, (v != 0).into()),
-            6 => (now.largest, now.has_largest) = (n, (v != 0).into()),
-            _ => {
-                let answer = ffi::number_step(step, now, n, n as usize, v);
-                holds &= is_clean_number(step, now, &answer);
-                now = answer.ends;
-            }
+        Self { step: bytes[0], kind: bytes[1], n: number(&bytes[2..10]), v: number(&bytes[10..]) as u32 }
+    }
+
+    fn ask(self, given: NumberSpaces) -> NumberAnswer {
+        ffi::number_step(self.step, self.kind, given, self.n, self.n as usize, self.v)
+    }
+
+    /// The spaces after it, where it is answered as it must be; beside odd ones too, which must change nothing.
+    fn take(self, now: NumberSpaces, odd: Odd) -> Option<NumberSpaces> {
+        let given = with(odd.spaces(), self.kind, now);
+        let [answer, beside] = [now, given].map(|given| self.ask(given));
+        let said = |x: &NumberAnswer| (x.refusal, x.number_value, x.number_len, x.number);
+        let holds = is_clean_number(self.step, self.kind, now, &answer)
+            && is_clean_number(self.step, self.kind, given, &beside)
+            && said(&answer) == said(&beside)
+            && with(given, self.kind, answer.spaces) == beside.spaces;
+        holds.then_some(answer.spaces)
+    }
+
+    fn is_refused(self, given: NumberSpaces) -> bool {
+        let answer = self.ask(given);
+        answer.refusal == NO_ARGUMENT && is_clean_number(self.step, self.kind, given, &answer)
+    }
+}
+
+const FRESH: NumberEnds = NumberEnds { next: 0, acked: 0, largest: 0, has_acked: 0, has_largest: 0 };
+
+/// Each step of a run; then steps, kinds and flags that are none.
+fn spaces(a: &mut Args, odd: Odd) -> Result<bool, Bad> {
+    let mut now = NumberSpaces { initial: FRESH, handshake: FRESH, data: FRESH };
+    for step in a.bytes()?.chunks_exact(STEP).map(Step::of) {
+        let (n, has) = (step.n, (step.v != 0).into());
+        match (step.step, space_of(&mut now, step.kind)) {
+            (4, Some(ends)) => ends.next = n,
+            (5, Some(ends)) => (ends.acked, ends.has_acked) = (n, has),
+            (6, Some(ends)) => (ends.largest, ends.has_largest) = (n, has),
+            (4.., None) => {}
+            _ => match step.take(now, odd) {
+                Some(after) => now = after,
+                None => return Ok(false),
+            },
         }
     }
-    for (step, given) in [
-        (odd.from(4), now),
-        (odd.0 as u8 % 4, NumberEnds { has_acked: odd.from(2), ..now }),
-        (odd.0 as u8 % 4, NumberEnds { has_largest: odd.from(2), ..now }),
-    ] {
-        let answer = ffi::number_step(step, given, 0, 1, 0);
-        holds &= answer.refusal == NO_ARGUMENT && is_clean_number(step, given, &answer);
+    Ok(are_refused(now, odd))
+}
+
+/// Whether steps, kinds and flags that are none are refused.
+fn are_refused(now: NumberSpaces, odd: Odd) -> bool {
+    let step = |step, kind| Step { step, kind, n: 1, v: 0 };
+    let acked = each(now, |ends| NumberEnds { has_acked: odd.from(2), ..ends });
+    let largest = each(now, |ends| NumberEnds { has_largest: odd.from(2), ..ends });
+    let is_no_kind = |kind| [now, odd.spaces()].into_iter().all(|given| step(kind % 4, kind).is_refused(given));
+    let mut holds = (NO_PACKET..=u8::MAX).all(is_no_kind);
+    for kind in [INITIAL, ZERO_RTT, HANDSHAKE, SHORT] {
+        let no_flags = [acked, largest].map(|flagged| with(now, kind, flagged));
+        holds &= (0..4).all(|number| no_flags.into_iter().all(|given| step(number, kind).is_refused(given)));
+        holds &= step(odd.from(4), kind).is_refused(now);
     }
-    Ok(holds)
+    holds
+}
+
+fn each(spaces: NumberSpaces, f: impl Fn(NumberEnds) -> NumberEnds) -> NumberSpaces {
+    NumberSpaces { initial: f(spaces.initial), handshake: f(spaces.handshake), data: f(spaces.data) }
 }

@@ -1,10 +1,13 @@
 //! What an answer of a C function has, by include/guobbarel.h: all else in it must be 0.
-use crate::ffi::{FrameAnswer, FrameValue, HeaderAnswer, NumberAnswer, NumberEnds, SplitAnswer, UnmaskAnswer};
+use crate::ffi::{
+    FrameAnswer, FrameValue, HeaderAnswer, NumberAnswer, NumberEnds, NumberSpaces, SplitAnswer, UnmaskAnswer,
+};
 use guobbarel::Value;
 use surface::ours::start_of;
 
 /// Kinds of packet, and what stands for none.
 pub const INITIAL: u8 = 0;
+pub const ZERO_RTT: u8 = 1;
 pub const HANDSHAKE: u8 = 2;
 pub const RETRY: u8 = 3;
 pub const SHORT: u8 = 4;
@@ -13,6 +16,9 @@ pub const NO_PACKET: u8 = 6;
 /// Refusals.
 const NO_VERSION: u8 = 4;
 pub const NO_ARGUMENT: u8 = 14;
+/// Steps of the number ends that say a number.
+const SEND: u8 = 0;
+const READ: u8 = 2;
 
 pub fn has_number(kind: u8) -> bool {
     kind != RETRY && kind != VERSION_NEGOTIATION
@@ -71,10 +77,31 @@ pub fn is_clean_header(kind: u8, x: &HeaderAnswer) -> bool {
         && (x.has_length == 0 || is_written && kind <= HANDSHAKE)
 }
 
-/// Only a send says a cut number, only a send and a read a full one; a refusal leaves the ends.
-pub fn is_clean_number(step: u8, given: NumberEnds, x: &NumberAnswer) -> bool {
+/// The space of a kind; none where it has no number, or is no kind.
+pub fn space_of(spaces: &mut NumberSpaces, kind: u8) -> Option<&mut NumberEnds> {
+    match kind {
+        INITIAL => Some(&mut spaces.initial),
+        HANDSHAKE => Some(&mut spaces.handshake),
+        ZERO_RTT | SHORT => Some(&mut spaces.data),
+        _ => None,
+    }
+}
+
+/// Spaces with that of a kind, if it has one, as it is in others.
+pub fn with(mut spaces: NumberSpaces, kind: u8, mut others: NumberSpaces) -> NumberSpaces {
+    if let (Some(ends), Some(others)) = (space_of(&mut spaces, kind), space_of(&mut others, kind)) {
+        *ends = *others;
+    }
+    spaces
+}
+
+/// Only a send says a cut number, only a send and a read a full one. A refusal and a read leave all spaces, every step those that its
+/// kind does not name.
+pub fn is_clean_number(step: u8, kind: u8, given: NumberSpaces, x: &NumberAnswer) -> bool {
     let is_done = x.refusal == 0;
-    (x.number_value == 0 && x.number_len == 0 || is_done && step == 0)
-        && (x.number == 0 || is_done && (step == 0 || step == 2))
-        && (is_done || x.ends == given)
+    let left = if is_done && step != READ { with(x.spaces, kind, given) } else { x.spaces };
+    (x.number_value == 0 && x.number_len == 0 || is_done && step == SEND)
+        && (x.number == 0 || is_done && (step == SEND || step == READ))
+        && (x.refusal == NO_ARGUMENT || kind < NO_PACKET && has_number(kind))
+        && left == given
 }

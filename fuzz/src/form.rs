@@ -7,10 +7,10 @@ use std::fmt::Write;
 /// The operations, and their fields, a letter each:
 /// - `n` a number, `w` one below 2^32, `y` one below 256, `f` one below 2;
 /// - `m` five bytes, `x` one, `c` at most 255, `b` any, a token; `r` all that are left, last;
-/// - `o` a version, `v` versions; `s` steps of the number ends, last;
+/// - `o` a version, `v` versions; `s` steps of the number ends, `S` steps that name a kind, last;
 /// - `t` the length of a number, 0 for none: two words, whether there is one and its length;
 /// - `k` a kind of header, `K` a kind with its own fields.
-const OPERATIONS: [(&str, &str); 14] = [
+const OPERATIONS: [(&str, &str); 15] = [
     ("decode", "nfvr"),
     ("split", "nfvr"),
     ("walk", "nfvr"),
@@ -23,6 +23,7 @@ const OPERATIONS: [(&str, &str); 14] = [
     ("ackscan", "nnnr"),
     ("ackiter", "nr"),
     ("ends", "s"),
+    ("spaces", "S"),
     ("pnnew", "nn"),
     ("pnexp", "nwn"),
 ];
@@ -44,9 +45,11 @@ const TWO: u8 = LONG - 1;
 /// form of a token's length end at 16,384, a packet at 65,527.
 const REST: Edges = Edges { first: 0xe0, lengths: [16_384, 65_527] };
 const TOKEN: Edges = Edges { first: 0xc0, lengths: [16_384, 65_500] };
-/// The steps, and the bytes of one in a line.
-const STEPS: u8 = 7;
-const STEP: usize = 13;
+/// Of what there are so many at the start of a step: of steps, and then of kinds, where it names one. A number of 8 bytes and one of 4
+/// stand behind in a line.
+const STEP: [u8; 1] = [7];
+const NAMED_STEP: [u8; 2] = [7, 6];
+const NUMBERS: usize = 12;
 
 /// From its first on, 32 second bytes of an input stretch a field: sixteen around each of two lengths.
 struct Edges {
@@ -149,10 +152,10 @@ impl<'a> Input<'a> {
         self.stretched(rest, &REST)
     }
 
-    fn steps(&mut self) -> Vec<u8> {
+    fn steps(&mut self, first: &[u8]) -> Vec<u8> {
         let mut steps = Vec::new();
         while !self.left.is_empty() {
-            steps.push(self.byte() % STEPS);
+            steps.extend(first.iter().map(|count| self.byte() % count));
             steps.extend(self.number().to_be_bytes());
             steps.extend((self.number() as u32).to_be_bytes());
         }
@@ -186,7 +189,8 @@ impl<'a> Input<'a> {
                 'c' => hex_into(line, self.bytes(256)),
                 'b' => hex_into(line, &self.token()),
                 'r' => hex_into(line, &self.rest()),
-                's' => hex_into(line, &self.steps()),
+                's' => hex_into(line, &self.steps(&STEP)),
+                'S' => hex_into(line, &self.steps(&NAMED_STEP)),
                 'v' => line.push_str(&self.versions()),
                 't' => match self.number() {
                     0 => line.push_str("0 0"),
@@ -235,7 +239,8 @@ fn make(fields: &str, args: &mut Args, made: &mut Vec<u8>) -> Result<(), Bad> {
                 let kept = shortened(made, &rest, &REST);
                 made.extend(kept);
             }
-            's' => make_steps(made, &args.bytes()?),
+            's' => make_steps(made, &args.bytes()?, &STEP),
+            'S' => make_steps(made, &args.bytes()?, &NAMED_STEP),
             'v' => {
                 let versions = args.versions()?;
                 make_number(made, versions.len() as u64);
@@ -286,12 +291,13 @@ fn shortened<'a>(made: &mut [u8], bytes: &'a [u8], edges: &Edges) -> &'a [u8] {
     &bytes[..kept]
 }
 
-fn make_steps(made: &mut Vec<u8>, steps: &[u8]) {
-    for step in steps.chunks_exact(STEP) {
+fn make_steps(made: &mut Vec<u8>, steps: &[u8], first: &[u8]) {
+    for step in steps.chunks_exact(first.len() + NUMBERS) {
         let number = |bytes: &[u8]| bytes.iter().fold(0, |x, &b| x << 8 | u64::from(b));
-        made.push(step[0]);
-        make_number(made, number(&step[1..9]));
-        make_number(made, number(&step[9..]));
+        let (named, numbers) = step.split_at(first.len());
+        made.extend(named);
+        make_number(made, number(&numbers[..8]));
+        make_number(made, number(&numbers[8..]));
     }
 }
 
@@ -322,7 +328,9 @@ mod tests {
     fn any_bytes_are_a_case() {
         assert_eq!(case(&[]), "decode 0 0 - -");
         assert_eq!(case(&[8, 0, 1, 2]), "frames 0102");
-        assert_eq!(case(&[12, 0, 0xf8]), "pnnew 0 0");
+        assert_eq!(case(&[13, 0, 0xf8]), "pnnew 0 0");
+        assert_eq!(case(&[11, 0, 8, 5, 6]), "ends 01000000000000000500000006");
+        assert_eq!(case(&[12, 0, 8, 10, 5, 6]), "spaces 0104000000000000000500000006");
         assert_eq!(case(&[1, 0, 0, 0, 3, 0xf7, 1, 0xf8, 0xf7, 0x40]), "split 0 0 1798521807,1,247 40");
         assert_eq!(case(&[5, 0, 3, 0xf7]), "henc retry 1798521807 - - -");
         assert_eq!(case(&[8, 0xf8, 7]).len(), "frames ".len() + 2 * 65_527);

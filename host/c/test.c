@@ -91,48 +91,140 @@ static void frames(void) {
     EXPECT(a.refusal == GUOBBAREL_NO_FRAMES && a.has_type == 0);
 }
 
-static void numbers(void) {
-    guobbarel_number_ends fresh = {0};
-    guobbarel_number_answer a = guobbarel_number_step(GUOBBAREL_SEND, fresh, 0, 0, 0);
-    EXPECT(a.refusal == GUOBBAREL_OK && a.number == 0 && a.number_len == 1 && a.number_value == 0 && a.ends.next == 1);
-    a = guobbarel_number_step(GUOBBAREL_ACKNOWLEDGE, a.ends, 0, 0, 0);
-    EXPECT(a.refusal == GUOBBAREL_OK && a.ends.has_acked == 1 && a.ends.acked == 0 && a.ends.next == 1);
-    a = guobbarel_number_step(GUOBBAREL_ACCEPT, a.ends, 127, 0, 0);
-    EXPECT(a.refusal == GUOBBAREL_OK && a.ends.has_largest == 1 && a.ends.largest == 127);
-    a = guobbarel_number_step(GUOBBAREL_READ, a.ends, 0, 1, 0);
-    EXPECT(a.refusal == GUOBBAREL_OK && a.number == 256 && a.ends.largest == 127);
-    a = guobbarel_number_step(4, a.ends, 0, 0, 0);
-    EXPECT(a.refusal == GUOBBAREL_NO_ARGUMENT && a.ends.largest == 127);
-    fresh.has_acked = 2;
-    a = guobbarel_number_step(GUOBBAREL_SEND, fresh, 0, 0, 0);
-    EXPECT(a.refusal == GUOBBAREL_NO_ARGUMENT && a.ends.has_acked == 2 && a.ends.next == 0);
-    fresh.has_acked = 1;
-    fresh.next = 2147483648u;
-    a = guobbarel_number_step(GUOBBAREL_SEND, fresh, 0, 0, 0);
-    EXPECT(a.refusal == GUOBBAREL_NO_TOO_FAR && a.ends.next == 2147483648u);
+static int same(guobbarel_number_ends a, guobbarel_number_ends b) {
+    return a.next == b.next && a.acked == b.acked && a.largest == b.largest && a.has_acked == b.has_acked &&
+           a.has_largest == b.has_largest;
+}
+
+static int all_same(guobbarel_number_spaces a, guobbarel_number_spaces b) {
+    return same(a.initial, b.initial) && same(a.handshake, b.handshake) && same(a.data, b.data);
+}
+
+/* The space that packets of a kind use; NULL where they have no number. */
+static guobbarel_number_ends *space_of(guobbarel_number_spaces *spaces, unsigned kind) {
+    switch (kind) {
+    case GUOBBAREL_INITIAL:
+        return &spaces->initial;
+    case GUOBBAREL_HANDSHAKE:
+        return &spaces->handshake;
+    case GUOBBAREL_0RTT:
+    case GUOBBAREL_SHORT:
+        return &spaces->data;
+    default:
+        return NULL;
+    }
+}
+
+/* What no step leaves in a space: flags that are none, numbers beside a flag of 0, numbers past 2^62, acknowledged but not sent. */
+static const guobbarel_number_ends odd[3] = {{5, 7, 9, 2, 255}, {UINT64_MAX, 8, UINT64_MAX, 0, 0}, {3, 3, UINT64_MAX, 1, 1}};
+
+/* A step in the space of a kind that has these ends: its answer, and the ends after it. It is asked three times, so that each odd
+ * space stands in each place beside it; those must come back, and change nothing. */
+static guobbarel_number_answer step_in(unsigned kind, guobbarel_number_ends *ends, uint8_t step, uint64_t number,
+                                       size_t number_len, uint32_t number_value) {
+    guobbarel_number_answer a[3];
+    for (unsigned turn = 0; turn < 3; turn++) {
+        guobbarel_number_spaces given = {odd[turn], odd[(turn + 1) % 3], odd[(turn + 2) % 3]};
+        *space_of(&given, kind) = *ends;
+        a[turn] = guobbarel_number_step(step, (uint8_t)kind, given, number, number_len, number_value);
+        *space_of(&given, kind) = *space_of(&a[0].spaces, kind);
+        EXPECT(all_same(a[turn].spaces, given));
+        EXPECT(a[turn].refusal == a[0].refusal && a[turn].number == a[0].number);
+        EXPECT(a[turn].number_len == a[0].number_len && a[turn].number_value == a[0].number_value);
+    }
+    *ends = *space_of(&a[0].spaces, kind);
+    return a[0];
+}
+
+static const unsigned numbered[4] = {GUOBBAREL_INITIAL, GUOBBAREL_0RTT, GUOBBAREL_HANDSHAKE, GUOBBAREL_SHORT};
+
+static void numbers(unsigned kind) {
+    guobbarel_number_ends ends = {0};
+    guobbarel_number_answer a = step_in(kind, &ends, GUOBBAREL_SEND, 0, 0, 0);
+    EXPECT(a.refusal == GUOBBAREL_OK && a.number == 0 && a.number_len == 1 && a.number_value == 0 && ends.next == 1);
+    a = step_in(kind, &ends, GUOBBAREL_ACKNOWLEDGE, 0, 0, 0);
+    EXPECT(a.refusal == GUOBBAREL_OK && ends.has_acked == 1 && ends.acked == 0 && ends.next == 1);
+    a = step_in(kind, &ends, GUOBBAREL_ACCEPT, 127, 0, 0);
+    EXPECT(a.refusal == GUOBBAREL_OK && ends.has_largest == 1 && ends.largest == 127);
+    a = step_in(kind, &ends, GUOBBAREL_READ, 0, 1, 0);
+    EXPECT(a.refusal == GUOBBAREL_OK && a.number == 256 && ends.largest == 127);
+    a = step_in(kind, &ends, 4, 0, 0, 0);
+    EXPECT(a.refusal == GUOBBAREL_NO_ARGUMENT && ends.largest == 127);
+    ends = (guobbarel_number_ends){0, 0, 0, 2, 0};
+    a = step_in(kind, &ends, GUOBBAREL_SEND, 0, 0, 0);
+    EXPECT(a.refusal == GUOBBAREL_NO_ARGUMENT && ends.has_acked == 2 && ends.next == 0);
+    ends = (guobbarel_number_ends){2147483648u, 0, 0, 1, 0};
+    a = step_in(kind, &ends, GUOBBAREL_SEND, 0, 0, 0);
+    EXPECT(a.refusal == GUOBBAREL_NO_TOO_FAR && ends.next == 2147483648u);
 }
 
 /* A step looks at its half of the ends alone; a number whose flag is 0 comes back as 0, but of a read. */
-static void halves(void) {
+static void halves(unsigned kind) {
     guobbarel_number_ends sending = {5, 7, 0, 1, 0};
-    EXPECT(guobbarel_number_step(GUOBBAREL_SEND, sending, 0, 0, 0).refusal == GUOBBAREL_NO_ARGUMENT);
-    EXPECT(guobbarel_number_step(GUOBBAREL_ACKNOWLEDGE, sending, 0, 0, 0).refusal == GUOBBAREL_NO_ARGUMENT);
-    EXPECT(guobbarel_number_step(GUOBBAREL_READ, sending, 0, 1, 0).refusal == GUOBBAREL_OK);
-    guobbarel_number_answer a = guobbarel_number_step(GUOBBAREL_ACCEPT, sending, 3, 0, 0);
-    EXPECT(a.refusal == GUOBBAREL_OK && a.ends.largest == 3 && a.ends.next == 5 && a.ends.acked == 7);
+    EXPECT(step_in(kind, &sending, GUOBBAREL_SEND, 0, 0, 0).refusal == GUOBBAREL_NO_ARGUMENT);
+    EXPECT(step_in(kind, &sending, GUOBBAREL_ACKNOWLEDGE, 0, 0, 0).refusal == GUOBBAREL_NO_ARGUMENT);
+    EXPECT(step_in(kind, &sending, GUOBBAREL_READ, 0, 1, 0).refusal == GUOBBAREL_OK);
+    EXPECT(step_in(kind, &sending, GUOBBAREL_ACCEPT, 3, 0, 0).refusal == GUOBBAREL_OK);
+    EXPECT(sending.largest == 3 && sending.has_largest == 1 && sending.next == 5 && sending.acked == 7);
 
     guobbarel_number_ends receiving = {5, 0, UINT64_C(1) << 62, 0, 1};
-    EXPECT(guobbarel_number_step(GUOBBAREL_READ, receiving, 0, 1, 0).refusal == GUOBBAREL_NO_ARGUMENT);
-    EXPECT(guobbarel_number_step(GUOBBAREL_ACCEPT, receiving, 0, 0, 0).refusal == GUOBBAREL_NO_ARGUMENT);
-    a = guobbarel_number_step(GUOBBAREL_SEND, receiving, 0, 0, 0);
-    EXPECT(a.refusal == GUOBBAREL_OK && a.ends.next == 6 && a.ends.largest == UINT64_C(1) << 62);
-    EXPECT(guobbarel_number_step(GUOBBAREL_ACKNOWLEDGE, receiving, 4, 0, 0).refusal == GUOBBAREL_OK);
+    EXPECT(step_in(kind, &receiving, GUOBBAREL_READ, 0, 1, 0).refusal == GUOBBAREL_NO_ARGUMENT);
+    EXPECT(step_in(kind, &receiving, GUOBBAREL_ACCEPT, 0, 0, 0).refusal == GUOBBAREL_NO_ARGUMENT);
+    EXPECT(step_in(kind, &receiving, GUOBBAREL_SEND, 0, 0, 0).refusal == GUOBBAREL_OK);
+    EXPECT(receiving.next == 6 && receiving.largest == UINT64_C(1) << 62);
+    EXPECT(step_in(kind, &receiving, GUOBBAREL_ACKNOWLEDGE, 4, 0, 0).refusal == GUOBBAREL_OK);
 
     guobbarel_number_ends unflagged = {5, 9, 9, 0, 0};
-    a = guobbarel_number_step(GUOBBAREL_READ, unflagged, 0, 1, 0);
-    EXPECT(a.refusal == GUOBBAREL_OK && a.ends.acked == 9 && a.ends.largest == 9);
-    a = guobbarel_number_step(GUOBBAREL_SEND, unflagged, 0, 0, 0);
-    EXPECT(a.refusal == GUOBBAREL_OK && a.ends.acked == 0 && a.ends.largest == 0);
+    EXPECT(step_in(kind, &unflagged, GUOBBAREL_READ, 0, 1, 0).refusal == GUOBBAREL_OK);
+    EXPECT(unflagged.acked == 9 && unflagged.largest == 9);
+    EXPECT(step_in(kind, &unflagged, GUOBBAREL_SEND, 0, 0, 0).refusal == GUOBBAREL_OK);
+    EXPECT(unflagged.acked == 0 && unflagged.largest == 0);
+}
+
+/* Spaces that answer the same step otherwise. */
+static const guobbarel_number_spaces apart = {{20, 11, 300, 1, 1}, {30, 21, 600, 1, 1}, {40, 31, 900, 1, 1}};
+
+/* A step in the space of a kind: what it says is of that space, and it alone is another afterwards. */
+static void named(unsigned kind, unsigned step) {
+    guobbarel_number_spaces after = apart;
+    guobbarel_number_ends *ends = space_of(&after, kind);
+    guobbarel_number_answer a = guobbarel_number_step((uint8_t)step, (uint8_t)kind, apart, ends->next - 1, 1, 0);
+    EXPECT(a.refusal == (step <= GUOBBAREL_ACCEPT ? GUOBBAREL_OK : GUOBBAREL_NO_ARGUMENT));
+    EXPECT(step != GUOBBAREL_SEND || a.number == ends->next);
+    EXPECT(step != GUOBBAREL_READ || a.number == (ends->largest + 1 + 128) / 256 * 256);
+    if (step == GUOBBAREL_SEND)
+        ends->next++;
+    if (step == GUOBBAREL_ACKNOWLEDGE)
+        ends->acked = ends->next - 1;
+    EXPECT(all_same(a.spaces, after));
+}
+
+/* A kind that has no space: nothing is done, whatever the step and the flags. */
+static void unnumbered(unsigned kind, unsigned step) {
+    const guobbarel_number_spaces given[2] = {apart, {odd[0], odd[1], odd[2]}};
+    for (unsigned i = 0; i < 2; i++) {
+        guobbarel_number_answer a = guobbarel_number_step((uint8_t)step, (uint8_t)kind, given[i], 1, 1, 0);
+        EXPECT(a.refusal == GUOBBAREL_NO_ARGUMENT && a.number == 0 && a.number_len == 0 && a.number_value == 0);
+        EXPECT(all_same(a.spaces, given[i]));
+    }
+}
+
+static void kinds(void) {
+    guobbarel_number_spaces any = apart;
+    for (unsigned kind = 0; kind < 256; kind++)
+        for (unsigned step = 0; step < 6; step++)
+            (space_of(&any, kind) ? named : unnumbered)(kind, step);
+}
+
+/* What the gateway once did: Data has sent 0 to 1000, and Handshake fewer, when 1000 is acknowledged. */
+static void incident(void) {
+    guobbarel_number_spaces sent = {{0, 0, 0, 0, 0}, {3, 0, 0, 0, 0}, {1001, 0, 0, 0, 0}};
+    guobbarel_number_answer a = guobbarel_number_step(GUOBBAREL_ACKNOWLEDGE, GUOBBAREL_HANDSHAKE, sent, 1000, 0, 0);
+    EXPECT(a.refusal == GUOBBAREL_NO_ARGUMENT && all_same(a.spaces, sent));
+    a = guobbarel_number_step(GUOBBAREL_ACKNOWLEDGE, GUOBBAREL_SHORT, sent, 1000, 0, 0);
+    sent.data.acked = 1000;
+    sent.data.has_acked = 1;
+    EXPECT(a.refusal == GUOBBAREL_OK && all_same(a.spaces, sent));
 }
 
 static void headers(void) {
@@ -182,8 +274,12 @@ int main(void) {
     split();
     protection();
     frames();
-    numbers();
-    halves();
+    for (unsigned i = 0; i < 4; i++) {
+        numbers(numbered[i]);
+        halves(numbered[i]);
+    }
+    kinds();
+    incident();
     headers();
     version_2();
     if (!failed)

@@ -94,6 +94,15 @@ pub(crate) struct NumberEnds {
     pub(crate) has_largest: u8,
 }
 
+/// `guobbarel_number_spaces`
+#[repr(C)]
+#[derive(Clone, Copy, Debug, PartialEq, Eq, Hash)]
+pub(crate) struct NumberSpaces {
+    pub(crate) initial: NumberEnds,
+    pub(crate) handshake: NumberEnds,
+    pub(crate) data: NumberEnds,
+}
+
 /// `guobbarel_number_answer`
 #[repr(C)]
 pub(crate) struct NumberAnswer {
@@ -101,7 +110,7 @@ pub(crate) struct NumberAnswer {
     pub(crate) number_value: u32,
     pub(crate) number_len: usize,
     pub(crate) number: u64,
-    pub(crate) ends: NumberEnds,
+    pub(crate) spaces: NumberSpaces,
 }
 
 /// `guobbarel_header`
@@ -152,7 +161,8 @@ layout!(FrameValue 32: kind 0 1, number 8 8, place 16 16);
 layout!(FrameAnswer 232: refusal 0 1, found 1 1, has_type 2 1, start 8 8, next 16 8, frame_type 24 8, name 32 8,
     value 40 192);
 layout!(NumberEnds 32: next 0 8, acked 8 8, largest 16 8, has_acked 24 1, has_largest 25 1);
-layout!(NumberAnswer 56: refusal 0 1, number_value 4 4, number_len 8 8, number 16 8, ends 24 32);
+layout!(NumberSpaces 96: initial 0 32, handshake 32 32, data 64 32);
+layout!(NumberAnswer 120: refusal 0 1, number_value 4 4, number_len 8 8, number 16 8, spaces 24 96);
 layout!(HeaderGiven 24: kind 0 1, spin 1 1, key_phase 2 1, random 3 1, version 4 4, number_value 8 4, number_len 16 8);
 layout!(HeaderAnswer 24: refusal 0 1, has_length 1 1, header_len 8 8, number_len 16 8);
 
@@ -178,7 +188,8 @@ unsafe extern "C" {
     fn guobbarel_frame_read(payload: *const u8, payload_len: usize, at: usize) -> FrameAnswer;
     fn guobbarel_number_step(
         step: u8,
-        ends: NumberEnds,
+        kind: u8,
+        spaces: NumberSpaces,
         number: u64,
         number_len: usize,
         number_value: u32,
@@ -226,12 +237,13 @@ pub(crate) fn frame_read(payload: &[u8], at: usize) -> FrameAnswer {
 
 pub(crate) fn number_step(
     step: u8,
-    ends: NumberEnds,
+    kind: u8,
+    spaces: NumberSpaces,
     number: u64,
     number_len: usize,
     number_value: u32,
 ) -> NumberAnswer {
-    unsafe { guobbarel_number_step(step, ends, number, number_len, number_value) }
+    unsafe { guobbarel_number_step(step, kind, spaces, number, number_len, number_value) }
 }
 
 pub(crate) fn header_write(

@@ -38,6 +38,6 @@ pub use acks::{AckRange, AckRanges};
 pub use error::Error;
 pub use frames::{Ack, EcnCounts, Frame, FrameRefused, Frames, Read, Value};
 pub use header::{Header, Written};
-pub use numbers::{Ends, Sent};
+pub use numbers::{Ends, Sent, Spaces};
 pub use packets::{Kind, Packet, PacketRefused, Packets, Unmasked, Unsupported, VERSION_1, VERSION_2, sample, unmask};
 pub use values::{CutNumber, FrameType, FullNumber, StreamId};

@@ -115,7 +115,8 @@ fn packets_are_opened() {
         assert_eq!(open.payload.len(), bytes(example.payload).len() + TAG);
         // the number before it was the last that was accepted
         let ends = Ends::from_parts(FullNumber::new(0), None, Some(FullNumber::new(example.number - 1)));
-        assert_eq!(ends.read(open.number).unwrap().get(), example.number);
+        let spaces = Spaces::from_parts(ends, ends, ends);
+        assert_eq!(spaces.read(example.kind, open.number).unwrap().get(), example.number);
     }
 }
 

@@ -105,7 +105,7 @@ fn of_host() -> Layouts {
 #[test]
 fn the_records_are_laid_out_alike() {
     let rattle = of_rattle();
-    assert_eq!(rattle.len(), 10);
+    assert_eq!(rattle.len(), 11);
     assert_eq!(rattle["FrameAnswer"].fields.last(), Some(&("value".into(), 40, 192)));
     assert_eq!(of_header(), rattle);
     assert_eq!(of_host(), rattle);

@@ -299,61 +299,167 @@ fn frames_are_refused() {
     assert_eq!(frame_refused(&bytes("02 05 00 01 01 03 00")), at(Error::Malformed, 0, Some(2)));
 }
 
+/// The kinds that have a number, and of each the space: 0 Initial, 1 Handshake, 2 Data. Those that have none.
+const NUMBERED: [Kind; 4] = [Kind::Initial, Kind::ZeroRtt, Kind::Handshake, Kind::Short];
+const SPACE: [usize; 4] = [0, 2, 1, 2];
+const UNNUMBERED: [Kind; 2] = [Kind::Retry, Kind::VersionNegotiation];
+
+/// Three spaces with the same ends.
+fn alike(next: u64, acknowledged: Option<u64>, accepted: Option<u64>) -> Spaces {
+    let ends =
+        Ends::from_parts(FullNumber::new(next), acknowledged.map(FullNumber::new), accepted.map(FullNumber::new));
+    Spaces::from_parts(ends, ends, ends)
+}
+
+/// A step by its number, and what it says.
+fn step(spaces: &mut Spaces, step: usize, kind: Kind) -> String {
+    match step {
+        0 => format!("{:?}", spaces.send(kind)),
+        1 => format!("{:?}", spaces.acknowledge(kind, FullNumber::new(2))),
+        2 => format!("{:?}", spaces.read(kind, CutNumber::new(1, 7))),
+        _ => format!("{:?}", spaces.accept(kind, FullNumber::new(400))),
+    }
+}
+
+/// Initial has sent 0 to 4, Handshake 0 alone, Data 0 to 2; each has accepted another number.
+fn apart() -> Spaces {
+    let mut spaces = Spaces::new();
+    let all = [(Kind::Initial, 5, 300), (Kind::Handshake, 1, 600), (Kind::ZeroRtt, 2, 900), (Kind::Short, 1, 1200)];
+    for (kind, sent, accepted) in all {
+        (0..sent).for_each(|_| assert!(spaces.send(kind).is_ok()));
+        spaces.accept(kind, FullNumber::new(accepted)).unwrap();
+    }
+    spaces
+}
+
 #[test]
 fn numbers_are_sent_read_and_accepted() {
-    let mut sender = Ends::new();
-    let mut receiver = Ends::default();
-    for n in 0..1000 {
-        let sent = sender.send().unwrap();
-        assert_eq!(sent.number.get(), n);
-        let read = receiver.read(sent.cut).unwrap();
-        assert_eq!(read, sent.number);
-        receiver.accept(read).unwrap();
-        if n % 7 == 0 {
-            sender.acknowledge(read).unwrap();
+    for kind in NUMBERED {
+        let (mut sender, mut receiver) = (Spaces::new(), Spaces::default());
+        for n in 0..1000 {
+            let sent = sender.send(kind).unwrap();
+            assert_eq!(sent.number.get(), n);
+            let read = receiver.read(kind, sent.cut).unwrap();
+            assert_eq!(read, sent.number);
+            receiver.accept(kind, read).unwrap();
+            if n % 7 == 0 {
+                sender.acknowledge(kind, read).unwrap();
+            }
+        }
+        let (sending, receiving) = (sender.ends(kind).unwrap(), receiver.ends(kind).unwrap());
+        assert_eq!(sending.next().get(), 1000);
+        assert_eq!(sending.acknowledged().unwrap().get(), 994);
+        assert_eq!(receiving.accepted().unwrap().get(), 999);
+        assert_eq!((receiving.next().get(), receiving.acknowledged()), (0, None));
+        assert_eq!(Ends::from_parts(sending.next(), sending.acknowledged(), sending.accepted()), sending);
+    }
+}
+
+#[test]
+fn numbers_are_refused() {
+    for kind in NUMBERED {
+        let mut spaces = alike(1000, Some(994), Some(999));
+        let before = spaces;
+        assert_eq!(spaces.acknowledge(kind, FullNumber::new(1000)), Err(Error::Argument));
+        assert_eq!(spaces.accept(kind, FullNumber::new(1 << 62)), Err(Error::Argument));
+        assert_eq!(spaces.read(kind, CutNumber::new(5, 0)), Err(Error::Argument));
+        assert_eq!(spaces.read(kind, CutNumber::new(1, 256)), Err(Error::Argument));
+        assert_eq!(spaces, before);
+        assert_eq!(alike(1 << 31, None, None).send(kind), Err(Error::TooFar));
+        assert_eq!(alike(1 << 62, None, None).send(kind), Err(Error::Argument));
+        assert_eq!(alike(3, Some(3), None).send(kind), Err(Error::Argument));
+    }
+}
+
+/// What the gateway once did: Data has sent 0 to 1000, the other two fewer.
+#[test]
+fn an_acknowledgement_is_heard_in_its_own_space() {
+    let mut spaces = Spaces::new();
+    (0..3).for_each(|_| assert!(spaces.send(Kind::Handshake).is_ok()));
+    (0..1000).for_each(|_| assert!(spaces.send(Kind::Initial).is_ok()));
+    (0..=1000).for_each(|_| assert!(spaces.send(Kind::Short).is_ok()));
+    let (before, last) = (spaces, FullNumber::new(1000));
+    for wrong in [Kind::Handshake, Kind::Initial] {
+        assert_eq!(spaces.acknowledge(wrong, last), Err(Error::Argument));
+        assert_eq!(spaces, before);
+    }
+    for own in [Kind::Short, Kind::ZeroRtt] {
+        spaces = before;
+        assert_eq!(spaces.acknowledge(own, last), Ok(()));
+        let heard = Ends::from_parts(FullNumber::new(1001), Some(last), None);
+        assert_eq!([Kind::Short, Kind::ZeroRtt].map(|kind| spaces.ends(kind)), [Some(heard); 2]);
+        assert_eq!(spaces.ends(Kind::Handshake), before.ends(Kind::Handshake));
+        assert_eq!(spaces.ends(Kind::Initial), before.ends(Kind::Initial));
+    }
+}
+
+#[test]
+fn a_step_leaves_the_spaces_of_other_kinds() {
+    let places = [Kind::Initial, Kind::Handshake, Kind::Short];
+    let before = apart();
+    let [initial, handshake, data] = places.map(|kind| before.ends(kind).unwrap());
+    assert_eq!(Spaces::from_parts(initial, handshake, data), before);
+    for (kind, own) in NUMBERED.into_iter().zip(SPACE) {
+        for number in 0..4 {
+            let mut spaces = before;
+            let said = step(&mut spaces, number, kind);
+            for (_, other) in places.into_iter().enumerate().filter(|(space, _)| *space != own) {
+                assert_eq!(spaces.ends(other), before.ends(other), "step {number} of {kind:?}, space of {other:?}");
+            }
+            // an acknowledgement of 2 is refused in Handshake; a reading changes nothing; 400 is no larger but in Initial
+            let has_moved = [true, own != 1, false, own == 0][number];
+            assert_eq!(spaces != before, has_moved, "step {number} of {kind:?}");
+            assert_eq!(said.starts_with("Ok"), number != 1 || own != 1, "step {number} of {kind:?}");
         }
     }
-    assert_eq!(sender.next().get(), 1000);
-    assert_eq!(sender.acknowledged().unwrap().get(), 994);
-    assert_eq!(receiver.accepted().unwrap().get(), 999);
-    assert_eq!((receiver.next().get(), receiver.acknowledged()), (0, None));
+}
 
-    let before = sender;
-    assert_eq!(sender.acknowledge(FullNumber::new(1000)), Err(Error::Argument));
-    assert_eq!(receiver.accept(FullNumber::new(1 << 62)), Err(Error::Argument));
-    assert_eq!(receiver.read(CutNumber::new(5, 0)), Err(Error::Argument));
-    assert_eq!(receiver.read(CutNumber::new(1, 256)), Err(Error::Argument));
-    assert_eq!(sender, before);
+#[test]
+fn steps_in_different_spaces_go_in_either_order() {
+    let pairs = || (0..4).flat_map(|i| (0..4).map(move |k| (i, k)));
+    for (one, other) in pairs().filter(|&(i, k)| SPACE[i] != SPACE[k]).map(|(i, k)| (NUMBERED[i], NUMBERED[k])) {
+        for (i, k) in pairs() {
+            let (mut spaces, mut turned) = (apart(), apart());
+            let said = [step(&mut spaces, i, one), step(&mut spaces, k, other)];
+            let [second, first] = [step(&mut turned, k, other), step(&mut turned, i, one)];
+            assert_eq!((said, spaces), ([first, second], turned), "{one:?} {i}, {other:?} {k}");
+        }
+    }
+}
 
-    let number = FullNumber::new;
-    let kept = Ends::from_parts(sender.next(), sender.acknowledged(), sender.accepted());
-    assert_eq!(kept, sender);
-    assert_eq!(Ends::from_parts(number(1 << 31), None, None).send(), Err(Error::TooFar));
-    assert_eq!(Ends::from_parts(number(1 << 62), None, None).send(), Err(Error::Argument));
-    assert_eq!(Ends::from_parts(number(3), Some(number(3)), None).send(), Err(Error::Argument));
+#[test]
+fn a_kind_without_a_number_has_no_space() {
+    for kind in UNNUMBERED {
+        let mut spaces = apart();
+        (0..4).for_each(|number| assert_eq!(step(&mut spaces, number, kind), "Err(Argument)"));
+        assert_eq!((spaces, spaces.ends(kind)), (apart(), None));
+    }
 }
 
 #[test]
 fn a_link_is_read_up_to_the_last_number() {
+    NUMBERED.into_iter().for_each(read_up_to_the_last_number);
+}
+
+fn read_up_to_the_last_number(kind: Kind) {
     const END: u64 = 1 << 62;
-    let (number, last) = (FullNumber::new, FullNumber::new(END - 601));
-    let mut sender = Ends::from_parts(number(END - 600), Some(last), None);
-    let mut receiver = Ends::from_parts(number(0), None, Some(last));
-    while sender.next().get() < END {
-        let sent = sender.send().unwrap();
-        (0..256).for_each(|value| assert!(receiver.read(CutNumber::new(1, value)).unwrap().get() < END));
-        assert_eq!(receiver.read(sent.cut), Ok(sent.number));
-        receiver.accept(sent.number).unwrap();
-        sender.acknowledge(sent.number).unwrap();
+    let mut sender = alike(END - 600, Some(END - 601), None);
+    let mut receiver = alike(0, None, Some(END - 601));
+    while sender.ends(kind).unwrap().next().get() < END {
+        let sent = sender.send(kind).unwrap();
+        (0..256).for_each(|value| assert!(receiver.read(kind, CutNumber::new(1, value)).unwrap().get() < END));
+        assert_eq!(receiver.read(kind, sent.cut), Ok(sent.number));
+        receiver.accept(kind, sent.number).unwrap();
+        sender.acknowledge(kind, sent.number).unwrap();
     }
-    assert_eq!(sender.send(), Err(Error::Argument));
+    assert_eq!(sender.send(kind), Err(Error::Argument));
 
     // all numbers are used up: the values up to half the window are read as 2^62 and more, which is not accepted
     let before = receiver;
     for value in 0..256 {
-        let read = receiver.read(CutNumber::new(1, value)).unwrap();
+        let read = receiver.read(kind, CutNumber::new(1, value)).unwrap();
         assert_eq!(read.get() < END, value > 128);
-        assert_eq!(receiver.accept(read), if value > 128 { Ok(()) } else { Err(Error::Argument) });
+        assert_eq!(receiver.accept(kind, read), if value > 128 { Ok(()) } else { Err(Error::Argument) });
     }
     assert_eq!(receiver, before);
 }

@@ -55,5 +55,5 @@ pub mod bench {
     pub use crate::frame::probe::bench::{
         Payload, ack, connection_close, crypto, new_connection_id, read_vars, reset_stream, stream_meta,
     };
-    pub use crate::packet::probe::bench::{Cut, Datagram, Head, Split, cut, protect};
+    pub use crate::packet::probe::bench::{Cut, Datagram, Ends, Head, Split, Step, cut, protect};
 }

@@ -3,8 +3,11 @@ use crate::ours;
 use oracle::harness::rng::VERSION_2;
 use oracle::harness::{differences, words::unhex};
 
-/// The steps of a run, by their numbers.
+/// The steps of a run, by their numbers; the first are calls.
 const STEPS: [&str; 7] = ["send", "acknowledge", "read", "accept", "set next", "set acked", "set largest"];
+const CALLS: usize = 4;
+/// What calls are refused with.
+const REFUSED: &str = "send no 14,acknowledge no 14,read no 14,accept no 14";
 
 /// The classes of version 2: of a packet that is read or written its kind; of one that is read or not listed, which of 1 and 2 are
 /// listed, in their order.
@@ -27,8 +30,15 @@ fn all_of_2(op: &str) -> &'static [&'static str] {
     }
 }
 
+/// Of a run over three spaces: by each kind its steps, and what they are refused with; by one without a number every call is.
+fn all_of_spaces(kind: &str) -> Vec<String> {
+    let (done, far) =
+        if matches!(kind, "retry" | "vneg") { (&STEPS[CALLS..], None) } else { (&STEPS[..], Some("send no 16")) };
+    done.iter().copied().chain(REFUSED.split(',')).chain(far).map(|said| format!("{kind}: {said}")).collect()
+}
+
 /// Every class that must come up among the answers of an operation: its kinds first, then the rest, with commas between.
-pub fn all(op: &str) -> impl Iterator<Item = &'static str> {
+pub fn all(op: &str) -> Vec<String> {
     let (kinds, rest): (Vec<&str>, &str) = match op {
         "decode" => (ours::kinds(), "no 1,no 2,no 3,no 4,no 5,no 6,no 14"),
         "split" => (ours::kinds(), "no 1,no 2,no 3,no 4,no 5,no 6,no 7,no 14"),
@@ -42,12 +52,18 @@ pub fn all(op: &str) -> impl Iterator<Item = &'static str> {
         "frames" => (ours::frame_words(), "no 10,no 11,no 12,no 13,no 14"),
         "ackscan" => (vec!["ok"], "no 10,no 12"),
         "ackiter" => (vec!["range", "end"], "no 10,no 12,no 14"),
-        "ends" => (STEPS.into(), "send no 14,send no 16,acknowledge no 14,read no 14,accept no 14,run # ceiling"),
+        "ends" => (STEPS.into_iter().chain(REFUSED.split(',')).collect(), "send no 16,run # ceiling"),
+        "spaces" => (vec![], "run # ceiling"),
         "pnnew" => (vec!["ok"], "no 14,no 16"),
         "pnexp" => (vec!["ok"], "ok # ceiling,no 14"),
         _ => (vec![], "an operation without a list"),
     };
-    kinds.into_iter().chain(rest.split(',')).chain(all_of_2(op).iter().flat_map(|some| some.split(',')))
+    let of_2 = all_of_2(op).iter().flat_map(|some| some.split(','));
+    let mut all: Vec<String> = kinds.into_iter().chain(rest.split(',')).chain(of_2).map(str::to_string).collect();
+    if op == "spaces" {
+        all.extend(ours::kinds().into_iter().flat_map(all_of_spaces));
+    }
+    all
 }
 
 /// The marks that stand behind a class, so that it must come up with them; no other does.
@@ -61,7 +77,7 @@ pub fn each(op: &str, question: &str, answer: &str, mark: &str, count: &mut dyn 
         "walk" => walked(word(question, 4), answer, mark, count),
         "frames" if answer.starts_with("ok") => answer.split(" ; ").skip(1).for_each(|frame| count(framed(frame))),
         "ackiter" => answer.split_terminator(';').for_each(|step| count(ranged(step))),
-        "ends" => {
+        "ends" | "spaces" => {
             answer.split_terminator(';').enumerate().for_each(|(i, step)| count(&stepped(question, i, step)));
             if !mark.is_empty() {
                 count(&with_mark("run", mark));
@@ -142,13 +158,20 @@ fn ranged(step: &str) -> &str {
     if step.starts_with(|c: char| c.is_ascii_digit()) { "range" } else { refusal_or_word(step) }
 }
 
-/// The step's name, by the first byte of its thirteen, and its refusal.
+/// The step's name, by the first of its bytes, and its refusal; over three spaces, behind the kind that the second names.
 fn stepped(question: &str, at: usize, step: &str) -> String {
-    let number = question.as_bytes().get("ends ".len() + 26 * at + 1).copied().unwrap_or_default();
-    let name = STEPS.get(usize::from(number.wrapping_sub(b'0'))).unwrap_or(&"");
-    match refusal_or_word(step) {
+    let (op, steps) = question.split_once(' ').unwrap_or_default();
+    let has_kind = op == "spaces";
+    let start = 2 * at * if has_kind { 14 } else { 13 };
+    let byte = |at: usize| steps.get(start + 2 * at..).and_then(|from| usize::from_str_radix(from.get(..2)?, 16).ok());
+    let name = byte(0).and_then(|number| STEPS.get(number)).unwrap_or(&"");
+    let said = match refusal_or_word(step) {
         "ok" | "set" => name.to_string(),
         no => format!("{name} {no}"),
+    };
+    match byte(1).filter(|_| has_kind).and_then(|kind| ours::kinds().get(kind).copied()) {
+        Some(kind) => format!("{kind}: {said}"),
+        None => said,
     }
 }
 
@@ -173,6 +196,18 @@ mod tests {
         assert_eq!(of("ackiter 5 00", "5 5 : 5 0;end : 5 0;"), ["range", "end"]);
         let steps = format!("ends 00{}01{}", "0".repeat(24), "0".repeat(24));
         assert_eq!(of(&steps, "ok 0 1 0 : 1 - -;no 14 : 1 - -;"), ["send", "acknowledge no 14"]);
+    }
+
+    #[test]
+    fn steps_over_three_spaces_are_classed_by_their_kinds() {
+        let steps = format!("spaces 0004{0}0102{0}0503{0}0305{0}", "0".repeat(24));
+        let said =
+            "ok 0 1 0 : 0 - - 0 - - 1 - -;no 14 : 0 - - 0 - - 1 - -;set : 0 - - 0 - - 1 - -;no 14 : 0 - - 0 - - 1 - -;";
+        assert_eq!(
+            of(&steps, said),
+            ["short: send", "handshake: acknowledge no 14", "retry: set acked", "vneg: accept no 14"]
+        );
+        assert_eq!(marked(&steps[..35], "ok 0 : 0 - - 0 - - 0 - -;", "ceiling"), ["short: send", "run # ceiling"]);
     }
 
     #[test]

@@ -16,7 +16,7 @@ type Said = Result<Option<String>, Bad>;
 type Run = fn(&mut Args) -> Said;
 
 /// The operations that the surface can answer.
-const OPERATIONS: [(&str, Run); 14] = [
+const OPERATIONS: [(&str, Run); 15] = [
     ("decode", packets::decode),
     ("split", packets::split),
     ("walk", packets::walk),
@@ -29,6 +29,7 @@ const OPERATIONS: [(&str, Run); 14] = [
     ("ackscan", frames::ackscan),
     ("ackiter", frames::ackiter),
     ("ends", numbers::ends),
+    ("spaces", numbers::spaces),
     ("pnnew", numbers::pnnew),
     ("pnexp", numbers::pnexp),
 ];

@@ -112,10 +112,10 @@ impl Tally {
             for (class, n) in &operation.classes {
                 println!("{:10} {class:30} {n:10}", "");
             }
-            let came_up = |class: &&str| operation.classes.contains_key(*class);
-            faults.extend(classes::all(op).filter(|c| !came_up(c)).map(|c| format!("never came up: {op}: {c}")));
-            let is_unknown = |class: &&String| classes::all(op).all(|known| known != *class);
-            let unknown = operation.classes.keys().filter(is_unknown);
+            let known = classes::all(op);
+            let missing = known.iter().filter(|class| !operation.classes.contains_key(*class));
+            faults.extend(missing.map(|c| format!("never came up: {op}: {c}")));
+            let unknown = operation.classes.keys().filter(|class| !known.contains(class));
             faults.extend(unknown.map(|c| format!("no class of the list: {op}: {c}")));
         }
         for (mark, n) in &self.marks {

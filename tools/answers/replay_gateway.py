@@ -1,13 +1,13 @@
 """The C surface: every function's record."""
 from answers import size
 from answers.replay_frame import MALFORMED, TYPES, WHOLE, type_name
-from answers.replay_packet import LISTED, TWO, VERSION_2, listed, version_at
+from answers.replay_number import CALLED, CEILING, LENGTHS, SPACE, STEPS, UNCALLED, UNNUMBERED, step_class
+from answers.replay_packet import KINDS, LISTED, TWO, VERSION_2, listed, version_at
 
-KINDS = ['initial', '0rtt', 'handshake', 'retry', 'short', 'vneg']
-NUMBERED = ['initial', '0rtt', 'handshake', 'short']
-LENGTHS = ['1 byte', '2 bytes', '3 bytes', '4 bytes']
+NUMBERED = list(SPACE)
 SIZE, PAST, OFFSET, FORM = ' # size-65527', ' # place-past-the-slice', ' # number-offset', ' # form-bit'
-STEPS = ['send', 'acknowledge', 'read', 'accept']
+# what a step leaves as it is in the spaces that it does not name
+ODD = ['odd flag beside', 'number without flag beside', 'past 2^62 beside']
 SPLIT = [kind + where for kind in KINDS for where in ('', ', later')]
 HEADER = [f'{kind}, {length}' for kind in NUMBERED for length in LENGTHS] + ['retry', 'vneg']
 ROOM = ['room left', 'no room left']
@@ -24,8 +24,8 @@ CLASSES = {
     + ['retry', 'vneg', 'retry' + PAST, 'vneg' + PAST, 'no 8', 'no 8' + OFFSET, 'no 14', 'no 14' + OFFSET, 'no 14' + FORM, 'no 14' + SIZE],
     'gframe': [type_name(ty) for ty in TYPES] + [f'{type_name(ty)} no 10' for ty in TYPES if ty not in WHOLE]
     + [f'{type_name(ty)} no 12' for ty in MALFORMED] + ['end', 'later', 'no 11', 'no type, no 10', 'no 13', 'no 14' + SIZE],
-    'gnumber': [f'send, {length}' for length in LENGTHS] + ['send no 14', 'send no 16', 'read', 'read # ceiling', 'read no 14', 'no step', 'no flag']
-    + [f'{step}{said}' for step in ('acknowledge', 'accept') for said in (', larger', ', no larger', ' no 14')],
+    'gnumber': [f'{kind}: {said}' for kind in NUMBERED for said in CALLED + ['read' + CEILING, 'no step', 'no flag'] + ODD]
+    + [f'{kind}: {said}' for kind in UNNUMBERED for said in UNCALLED + ['no step']] + ['no kind'],
     'gheader': HEADER + ROOM + HEADER_2 + ['no 14']
     + ['no 14 # ' + mark for mark in ('cid-over-20', 'cut-rule', 'u24-fourth-byte', 'length-16384')] + ['no 14' + SIZE, 'no 15 # short-buffer'],
     'gmask': [f'{form}, {length}' for form in ('long', 'short') for length in LENGTHS] + ['no number', 'no 14']
@@ -65,21 +65,39 @@ def gframe(q, a):
     return ['end' if refusal == '0' else f'no {refusal}']
 
 
+def odd(q, a, named):
+    """What is odd in the spaces that were not named, all of which must have come back."""
+    given, after = [space.split(',') for space in q[6:]], [a[4 + 5 * i:9 + 5 * i] for i in range(3)]
+    others = [i for i in range(3) if i != named]
+    if any(given[i] != after[i] for i in others):
+        return ['changed beside']
+    found = set()
+    for sent, acked, largest, *has in (map(int, given[i]) for i in others):
+        pairs = list(zip((acked, largest), has))
+        is_odd = max(has) > 1, any(n and not flag for n, flag in pairs), max(sent, acked, largest) >= 1 << 62
+        found.update(name for name, holds in zip(ODD, is_odd) if holds)
+    return sorted(found)
+
+
 def gnumber(q, a):
-    ends = q[5].split(',')
-    if int(q[1]) > 3:
-        return ['no step']
+    """By the kind that is named. Of a step that was done, and that the record comes back from, what is odd beside it too."""
+    step, kind = int(q[1]), int(q[2])
+    if kind >= len(KINDS):
+        return ['no kind']
+    kind = KINDS[kind]
+    if step >= 4:
+        return [f'{kind}: no step']
+    step, refusal = STEPS[step], a[0]
+    if kind in UNNUMBERED:
+        return [f'{kind}: {step} no {refusal}']
+    ends = q[6 + SPACE[kind]].split(',')
     if max(map(int, ends[3:])) > 1:
-        return ['no flag']
-    step = STEPS[int(q[1])]
-    if a[0] != '0':
-        return [f'{step} no {a[0]}']
-    if step == 'send':
-        return [f'send, {size(int(a[2]))}']
-    if step == 'read':
-        return ['read']
+        return [f'{kind}: no flag']
+    if refusal != '0':
+        return [f'{kind}: {step} no {refusal}']
     has, largest = (ends[3], ends[1]) if step == 'acknowledge' else (ends[4], ends[2])
-    return [f'{step}{", larger" if has == "0" or int(q[2]) > int(largest) else ", no larger"}']
+    said = step_class(step, f'ok {a[3]} {a[2]}', has == '0' or int(q[3]) > int(largest))
+    return [f'{kind}: {name}' for name in [said] + (odd(q, a, SPACE[kind]) if step != 'read' else [])]
 
 
 def gheader(q, a):

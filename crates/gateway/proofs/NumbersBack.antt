@@ -1,81 +1,133 @@
--- A step of the number ends over the surface is the call on the ends themselves: what it says and what it leaves are given back.
+-- A step of the number ends over the surface is the call on the record of three itself: what it says and what it leaves are given back.
+-- Of the spaces that it does not name, nothing is looked at, and they come back as they came.
 use Prim.Native.Nat.{ℕ}
-use mathlib.Core.Path.{_≡_, refl, sym}
+use mathlib.Core.Path.{_≡_, refl, ap, _∙_}
+use mathlib.Core.Bool.{false}
+use mathlib.Core.Option.{Option, none, some}
 use borrow.Author.Tests.{ne-eqb}
 use Rattle.coding.specs.Words.{if_then_else_, Answer, no, ok}
-use Rattle.coding.proofs.Rules.{if-all}
 use Rattle.coding.proofs.Numbers.{Refuses}
 use Rattle.number.proofs.Refusing.{send-refuses, acknowledge-refuses, accept-refuses, read-refuses}
 use Rattle.number.specs.Cutting.{cut}
-use Rattle.number.specs.Ends.{SoFar, none, at, baseOf, Ends, Packet, sendBy, acknowledgeBy, readBy, acceptBy}
-use Rattle.number.proofs.Calls.{send-refused, acknowledge-refused, accept-refused}
-use Rattle.gateway.specs.Numbers.{soFar, hasOf, endsIn, endsOut, sentRecord, keptRecord, readRecord}
-use Rattle.gateway.specs.GivesBack.{answerBack, callBack, packetBack, StepIsCall, RefusedIsSame}
+use Rattle.number.specs.Ends.{SoFar, none as nothing, at, baseOf, Ends, Packet}
+use Rattle.packet.specs.declared.header.SpaceId.{SpaceId}
+use Rattle.packet.specs.declared.header.SpaceId.the-variants as id
+use Rattle.spaces.specs.Each.{Each, of, put, spaceFor}
+use Rattle.spaces.specs.Calls.{Told, lifted, sendCall, acknowledgeCall, readCall, acceptCall}
+use Rattle.spaces.proofs.Lifts.{lifts-no, lifts}
+use Rattle.spaces.proofs.Order.{refused-stays, others-stay, looks-at-one, Both, either-order}
+use Rattle.gateway.specs.Arguments.{kindAt}
+use Rattle.gateway.specs.Numbers.{soFar, hasOf, endsIn, endsOut, unkept, Numbers, numbers, inNumbers, eachIn, eachOut, refusalIn, numbersIn, answerWith, recordOf, oneStep}
+use Rattle.gateway.specs.GivesBack.{spacesIn, callBack, packetBack, StepIsCall, RefusedIsSame, Step, stepOn, names, OthersAsCame, OthersUnread, EitherOrder}
 use Rattle.gateway.specs.declared.records.NumberEnds.{NumberEnds}
+use Rattle.gateway.specs.declared.records.NumberSpaces.{NumberSpaces}
 use Rattle.gateway.specs.declared.records.NumberAnswer.{NumberAnswer}
 
--- ---- the ends
+-- ---- the ends of one space
 
 so-far-back : (x : SoFar) → soFar (hasOf x) (baseOf x) ≡ x
 unfolding baseOf if_then_else_
-so-far-back none = refl
+so-far-back nothing = refl
 so-far-back (at n) = refl
 
--- a record that was handed back is the ends that the step left
+-- ends that were handed back are those that the step left
 pub ends-back : (e : Ends) → endsIn (endsOut e) ≡ e
 ends-back e i = record { next = e .next; acked = so-far-back (e .acked) i; largest = so-far-back (e .largest) i }
 
--- ---- the records
+of-in : (x : NumberSpaces) (s : SpaceId) → of (spacesIn x) s ≡ endsIn (of (eachIn x) s)
+of-in x id.Initial = refl
+of-in x id.Handshake = refl
+of-in x id.Data = refl
 
-module _ (e : NumberEnds) where
-  sent-back : (a : Answer Packet) (after : Ends) → Refuses a → ((k : ℕ) → a ≡ no k → after ≡ endsIn e)
-      → callBack packetBack (sentRecord e (record { says = a; leaves = after })) ≡ record { says = a; leaves = after }
+put-in : (x : NumberSpaces) (s : SpaceId) (e : NumberEnds) → spacesIn (eachOut (put (eachIn x) s e)) ≡ put (spacesIn x) s (endsIn e)
+put-in x id.Initial e = refl
+put-in x id.Handshake e = refl
+put-in x id.Data e = refl
+
+-- ---- a step of one space and its call
+
+-- the step says in numbers what the call says, and leaves what it leaves
+record AsCall {A : Type 0} (say : A → Numbers) (step : Told NumberEnds Numbers) (call : Told Ends A) : Type 0 where
+  pub says : step .says ≡ inNumbers say (call .says)
+  pub leaves : endsIn (step .leaves) ≡ call .leaves
+  pub refuses : Refuses (call .says)
+
+module _ {A : Type 0} (say : A → Numbers) (back : NumberAnswer → A) (given-back : (a : A) (y : Each NumberEnds) → back (answerWith 0 (say a) y) ≡ a) where
+  module _ (f : NumberEnds → Told NumberEnds Numbers) (g : Ends → Told Ends A) (x : NumberSpaces) where
+    in-space : (s : SpaceId) → AsCall say (f (of (eachIn x) s)) (g (endsIn (of (eachIn x) s)))
+        → callBack back (recordOf (lifted f (some s) (eachIn x))) ≡ lifted g (some s) (spacesIn x)
+    unfolding if_then_else_
+    in-space s h = go (g (endsIn (of (eachIn x) s)) .says) refl (h .refuses)
+      where
+        said : {b : Answer A} → g (endsIn (of (eachIn x) s)) .says ≡ b → g (of (spacesIn x) s) .says ≡ b
+        said r = rw (of-in x s) r
+
+        go : (b : Answer A) → g (endsIn (of (eachIn x) s)) .says ≡ b → Refuses b → callBack back (recordOf (lifted f (some s) (eachIn x))) ≡ lifted g (some s) (spacesIn x)
+        go (no k) r z =
+            rw (lifts-no f (eachIn x) s (h .says ∙ ap (inNumbers say) r), lifts-no g (spacesIn x) s (said r), ne-eqb k 0 z)
+        go (ok a) r z =
+            let leaves : endsIn (f (of (eachIn x) s) .leaves) ≡ g (of (spacesIn x) s) .leaves = rw (of-in x s) (h .leaves) in
+            rw (lifts f (eachIn x) s (h .says ∙ ap (inNumbers say) r), lifts g (spacesIn x) s (said r), given-back a (put (eachIn x) s (f (of (eachIn x) s) .leaves)), put-in x s (f (of (eachIn x) s) .leaves), leaves)
+
+    in-any : (o : Option SpaceId) → ((s : SpaceId) → o ≡ some s → AsCall say (f (of (eachIn x) s)) (g (endsIn (of (eachIn x) s))))
+        → callBack back (recordOf (lifted f o (eachIn x))) ≡ lifted g o (spacesIn x)
+    unfolding lifted if_then_else_
+    in-any none h = refl
+    in-any (some s) h = in-space s (h s refl)
+
+-- ---- the four steps
+
+module _ (e : NumberEnds) (n len value : ℕ) (u : unkept e ≡ false) where
+  one-sends : AsCall (λ (p : Packet). numbers (p .number) (p .carries .0) (p .carries .1)) (oneStep 0 n len value e) (sendCall (endsIn e))
   unfolding if_then_else_
-  sent-back (ok p) after h f = λ i. record { says = ok p; leaves = ends-back after i }
-  sent-back (no k) after h f = rw (ne-eqb k 0 h) (λ i. record { says = no k; leaves = sym (f k refl) i })
+  one-sends = rw u (record { says = refl; leaves = ends-back _; refuses = send-refuses (endsIn e) })
 
-  kept-back : (a : Answer Unit) (after : Ends) → Refuses a → ((k : ℕ) → a ≡ no k → after ≡ endsIn e)
-      → callBack (λ r. tt) (keptRecord e (record { says = a; leaves = after })) ≡ record { says = a; leaves = after }
+  one-acknowledges : AsCall (λ (_ : Unit {0}). numbers 0 0 0) (oneStep 1 n len value e) (acknowledgeCall n (endsIn e))
   unfolding if_then_else_
-  kept-back (ok u) after h f = λ i. record { says = ok u; leaves = ends-back after i }
-  kept-back (no k) after h f = rw (ne-eqb k 0 h) (λ i. record { says = no k; leaves = sym (f k refl) i })
+  one-acknowledges = rw u (record { says = refl; leaves = ends-back _; refuses = acknowledge-refuses (endsIn e) n })
 
-  read-back : (a : Answer ℕ) → Refuses a → answerBack (λ r. r .number) (readRecord e a) ≡ a
+  one-reads : AsCall (λ (m : ℕ). numbers m 0 0) (oneStep 2 n len value e) (readCall (cut len value) (endsIn e))
   unfolding if_then_else_
-  read-back (ok n) h = refl
-  read-back (no k) h = rw (ne-eqb k 0 h)
+  one-reads = rw u (record { says = refl; leaves = refl; refuses = read-refuses (endsIn e) (cut len value) })
 
-  abbrev Same : NumberAnswer → Type 0
-  Same r = (r .refusal ≡ 0 → ⊥) → r .ends ≡ e
-
-  sent-same : (a : Answer Packet) (after : Ends) → Same (sentRecord e (record { says = a; leaves = after }))
-  sent-same (ok p) after h = absurd (h refl)
-  sent-same (no k) after h = refl
-
-  kept-same : (a : Answer Unit) (after : Ends) → Same (keptRecord e (record { says = a; leaves = after }))
-  kept-same (ok u) after h = absurd (h refl)
-  kept-same (no k) after h = refl
-
-  read-same : (a : Answer ℕ) → Same (readRecord e a)
-  read-same (ok m) h = refl
-  read-same (no k) h = refl
+  one-accepts : AsCall (λ (_ : Unit {0}). numbers 0 0 0) (oneStep 3 n len value e) (acceptCall n (endsIn e))
+  unfolding if_then_else_
+  one-accepts = rw u (record { says = refl; leaves = ends-back _; refuses = accept-refuses (endsIn e) n })
 
 pub steps-as : StepIsCall
-unfolding if_then_else_
-steps-as e n len value u =
-    let c : Ends = endsIn e in
+steps-as kind x n len value u =
+    let o : Option SpaceId = spaceFor (kindAt kind) in
     record {
-      sends = rw u (sent-back e (sendBy c .says) (sendBy c .leaves) (send-refuses c) (send-refused c));
-      acknowledges = rw u (kept-back e (acknowledgeBy c n .says) (acknowledgeBy c n .leaves) (acknowledge-refuses c n) (λ k. acknowledge-refused c k n));
-      reads = rw u (read-back e (readBy c (cut len value)) (read-refuses c (cut len value)));
-      accepts = rw u (kept-back e (acceptBy c n .says) (acceptBy c n .leaves) (accept-refuses c n) (λ k. accept-refused c k n));
+      sends = in-any _ packetBack (λ p y. refl) (oneStep 0 n len value) sendCall x o (λ s q. one-sends (of (eachIn x) s) n len value (u s q));
+      acknowledges = in-any _ (λ r. tt) (λ a y. refl) (oneStep 1 n len value) (acknowledgeCall n) x o (λ s q. one-acknowledges (of (eachIn x) s) n len value (u s q));
+      reads = in-any _ (λ r. r .number) (λ m y. refl) (oneStep 2 n len value) (readCall (cut len value)) x o (λ s q. one-reads (of (eachIn x) s) n len value (u s q));
+      accepts = in-any _ (λ r. tt) (λ a y. refl) (oneStep 3 n len value) (acceptCall n) x o (λ s q. one-accepts (of (eachIn x) s) n len value (u s q));
     }
 
+-- ---- any step
+
+abbrev one : Step → NumberEnds → Told NumberEnds Numbers
+one p = oneStep (p .step) (p .number) (p .len) (p .value)
+
 pub refused-same : RefusedIsSame
-refused-same step e n len value =
-    let c : Ends = endsIn e in
-    if-all (Same e) _ _ _ (λ _ _. refl) (λ _.
-    if-all (Same e) _ _ _ (λ _. sent-same e (sendBy c .says) (sendBy c .leaves)) (λ _.
-    if-all (Same e) _ _ _ (λ _. kept-same e (acknowledgeBy c n .says) (acknowledgeBy c n .leaves)) (λ _.
-    if-all (Same e) _ _ _ (λ _. read-same e (readBy c (cut len value))) (λ _.
-    if-all (Same e) _ _ _ (λ _. kept-same e (acceptBy c n .says) (acceptBy c n .leaves)) (λ _ _. refl)))))
+refused-same p x h = go (lifted (one p) (names p) (eachIn x) .says) refl
+  where
+    go : (b : Answer Numbers) → lifted (one p) (names p) (eachIn x) .says ≡ b → stepOn p x .spaces ≡ x
+    go (no k) r = ap eachOut (refused-stays (one p) (names p) (eachIn x) r)
+    go (ok a) r = absurd (h (ap refusalIn r))
+
+pub others-as-came : OthersAsCame
+others-as-came p x = others-stay (one p) (names p) (eachIn x)
+
+pub others-unread : OthersUnread
+others-unread p x y s q e =
+    let same = looks-at-one (one p) s (eachIn x) (eachIn y) e in
+    rw q (ap (λ (a : Answer Numbers). (refusalIn a, numbersIn a)) (same .says), same .leaves)
+
+pub steps-either-order : EitherOrder
+steps-either-order p q x apart =
+    let same = either-order (one p) (one q) (names p) (names q) (eachIn x) apart in (
+      ap (λ (b : Both (Each NumberEnds) Numbers Numbers). (refusalIn (b .first), numbersIn (b .first))) same,
+      ap (λ (b : Both (Each NumberEnds) Numbers Numbers). (refusalIn (b .second), numbersIn (b .second))) same,
+      ap (λ (b : Both (Each NumberEnds) Numbers Numbers). eachOut (b .leaves)) same,
+    )

@@ -13,13 +13,14 @@ use Rattle.coding.specs.Bytes.{byteAt}
 use Rattle.coding.specs.declared.Place.{Place}
 use Rattle.coding.proofs.Rules.{if-all}
 use Rattle.coding.proofs.Numbers.{Refuses, fourteen}
+use Rattle.packet.specs.Said.{spaceOf}
 use Rattle.packet.specs.Header.{initial, zeroRtt, handshake, retry, short, negotiate, kindOf, isLong, spaceIn}
 use Rattle.number.specs.Cutting.{tagLength}
 use Rattle.protect.specs.Tests.{inSize}
 use Rattle.protect.specs.Steps.{readOff, sampleAt, openedBy, openAt, finishAt, finished, headerPlace, payloadPlace}
 use Rattle.protect.specs.Steps as opened
 use Rattle.gateway_frame.specs.Spans.{placeBack}
-use Rattle.gateway.specs.Arguments.{longKind, numberedKind}
+use Rattle.gateway.specs.Arguments.{longKind, numberedKind, kindAt}
 use Rattle.gateway.specs.Packets.{sampleRecord, unmaskRecord}
 use Rattle.gateway.specs.GivesBack.{sampleBack, SampleGivesBack, openedBack, UnmaskGivesBack, KindsAgree}
 use Rattle.gateway.specs.declared.records.UnmaskAnswer.{UnmaskAnswer}
@@ -29,13 +30,13 @@ use Rattle.gateway.proofs.SplitBack.{flag-back}
 -- ---- the kinds
 
 pub kinds-agree : KindsAgree
-unfolding longKind numberedKind kindOf isLong spaceIn Option·elim
-kinds-agree (initial token len) = (refl, refl)
-kinds-agree (zeroRtt len) = (refl, refl)
-kinds-agree (handshake len) = (refl, refl)
-kinds-agree retry = (refl, refl)
-kinds-agree (short spin) = (refl, refl)
-kinds-agree (negotiate bits) = (refl, refl)
+unfolding longKind kindAt if_then_else_ spaceOf numberedKind kindOf isLong spaceIn Option·elim
+kinds-agree (initial token len) = (refl, refl, refl)
+kinds-agree (zeroRtt len) = (refl, refl, refl)
+kinds-agree (handshake len) = (refl, refl, refl)
+kinds-agree retry = (refl, refl, refl)
+kinds-agree (short spin) = (refl, refl, refl)
+kinds-agree (negotiate bits) = (refl, refl, refl)
 
 -- ---- the sample
 

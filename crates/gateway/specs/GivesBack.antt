@@ -1,6 +1,5 @@
--- What the records give back: what `packet`, `number` and the caller of header_write said. The maps here undo those of Packets and
--- Numbers; the laws are proved in proofs/SplitBack, UnmaskBack,
--- WrittenBack and NumbersBack.
+-- What the records give back: what `packet`, `spaces` and the caller of header_write said. The maps here undo those of Packets and
+-- Numbers; the laws are proved in proofs/SplitBack, UnmaskBack, WrittenBack and NumbersBack.
 use Prim.Native.Nat.{ℕ, _+_, _%_, _^_, _≤_, _<_}
 use mathlib.Core.Path.{_≡_}
 use mathlib.Core.List.{List, _++_}
@@ -13,23 +12,29 @@ use Rattle.coding.specs.Places.{partOf}
 use Rattle.coding.specs.declared.Place.{Place}
 use Rattle.shared.specs.Cid.{cidOf, maxCid}
 use Rattle.number.specs.Cutting.{cut}
-use Rattle.number.specs.Ends.{Call, Packet, sendBy, acknowledgeBy, readBy, acceptBy}
+use Rattle.number.specs.Ends.{Packet}
 use Rattle.packet.specs.Header.{maxVersions, Header, initial, zeroRtt, handshake, retry, short, negotiate, Outcome, kindOf, isLong, spaceIn}
+use Rattle.packet.specs.Said.{spaceOf}
+use Rattle.packet.specs.declared.header.SpaceId.{SpaceId}
 use Rattle.packet.specs.Walk.{Met, atEnd, packet, refusedAt, PacketStep, packetStepAt}
 use Rattle.protect.specs.Steps.{readOff, sampleAt, Opened, finishAt, finished, headerPlace, payloadPlace}
 use Rattle.protect.specs.Steps as opened
+use Rattle.spaces.specs.Each.{of, spaceFor}
+use Rattle.spaces.specs.Calls.{Spaces, Told, sendIn, acknowledgeIn, readIn, acceptIn}
+use Rattle.spaces.specs.Said.{idIn}
 use Rattle.packet_out.specs.Back.{Readable}
 use Rattle.frame.specs.Table.{flag}
 use Rattle.gateway_frame.specs.Spans.{spanAt, placeBack}
 use Rattle.gateway_frame.specs.declared.records.Span.{Span}
-use Rattle.gateway.specs.Arguments.{longKind, numberedKind}
+use Rattle.gateway.specs.Arguments.{longKind, numberedKind, kindAt}
 use Rattle.gateway.specs.Packets.{splitFor, sampleFor, UnmasksPacket}
-use Rattle.gateway.specs.Numbers.{endsIn, unkept, numberFor}
+use Rattle.gateway.specs.Numbers.{endsIn, unkept, Numbers, numbers, eachIn, numberFor}
 use Rattle.gateway.specs.Headers.{plainFor, WritesHeader}
 use Rattle.gateway.specs.declared.records.SplitAnswer.{SplitAnswer}
 use Rattle.gateway.specs.declared.records.SampleAnswer.{SampleAnswer}
 use Rattle.gateway.specs.declared.records.UnmaskAnswer.{UnmaskAnswer}
 use Rattle.gateway.specs.declared.records.NumberEnds.{NumberEnds}
+use Rattle.gateway.specs.declared.records.NumberSpaces.{NumberSpaces}
 use Rattle.gateway.specs.declared.records.NumberAnswer.{NumberAnswer}
 use Rattle.gateway.specs.declared.records.HeaderGiven.{HeaderGiven}
 use Rattle.gateway.specs.declared.records.HeaderAnswer.{HeaderAnswer}
@@ -119,9 +124,11 @@ UnmaskGivesBack =
     (kind : ℕ) (s : List ℕ) (at : ℕ) (mask : List ℕ) (r : UnmaskAnswer) (new : List ℕ) → kind ≤ 5 → length mask ≡ 5
     → UnmasksPacket kind s at mask r new → OpensAs (numberedKind kind) (longKind kind) s at mask r
 
--- the kinds by number are those that decode reads: which are long, and which have a number and so a number space
+-- the kinds by number are those that decode reads: which are long, which have a number, and in which number space
 abbrev pub KindsAgree : Type 0
-KindsAgree = (h : Header) → (longKind (kindOf h) ≡ isLong (ok h)) × (numberedKind (kindOf h) ≡ Option·elim (spaceIn (ok h)) false (λ n. true))
+KindsAgree =
+    (h : Header) → (longKind (kindOf h) ≡ isLong (ok h)) × (numberedKind (kindOf h) ≡ Option·elim (spaceIn (ok h)) false (λ n. true))
+    × (spaceOf (idIn (spaceFor (kindAt (kindOf h)))) ≡ spaceIn (ok h))
 
 -- ---- header_write, then split
 
@@ -150,29 +157,76 @@ WrittenIsRead =
     → ReadBack h dst src token (length payload) w (take (w .«header_len») new ++ payload)
     (splitFor (take (w .«header_len») new ++ payload) 0 local versions (flag grease))
 
--- ---- number_step: the call on the ends themselves
+-- ---- number_step: the call on the record of three itself
 
+abbrev pub spacesIn : NumberSpaces → Spaces
+spacesIn x = record { initial = endsIn (x .initial); handshake = endsIn (x .handshake); «data» = endsIn (x .«data») }
+
+-- what the call says, and the record that it leaves
 abbrev pub answerBack : {A : Type 0} → (NumberAnswer → A) → NumberAnswer → Answer A
 answerBack f r = if eqb (r .refusal) 0 then ok (f r) else no (r .refusal)
 
--- what the call says, and the ends that it leaves
-abbrev pub callBack : {A : Type 0} → (NumberAnswer → A) → NumberAnswer → Call A
-callBack f r = record { says = answerBack f r; leaves = endsIn (r .ends) }
+abbrev pub callBack : {A : Type 0} → (NumberAnswer → A) → NumberAnswer → Told Spaces A
+callBack f r = record { says = answerBack f r; leaves = spacesIn (r .spaces) }
 
 abbrev pub packetBack : NumberAnswer → Packet
 packetBack r = record { number = r .number; carries = cut (r .«number_len») (r .«number_value») }
 
-pub record StepsAs (e : NumberEnds) (n len value : ℕ) : Type 0 where
-  pub sends : callBack packetBack (numberFor 0 e n len value) ≡ sendBy (endsIn e)
-  pub acknowledges : callBack (λ r. tt) (numberFor 1 e n len value) ≡ acknowledgeBy (endsIn e) n
-  pub reads : answerBack (λ r. r .number) (numberFor 2 e n len value) ≡ readBy (endsIn e) (cut len value)
-  pub accepts : callBack (λ r. tt) (numberFor 3 e n len value) ≡ acceptBy (endsIn e) n
+pub record StepsAs (kind : ℕ) (x : NumberSpaces) (n len value : ℕ) : Type 0 where
+  pub sends : callBack packetBack (numberFor 0 kind x n len value) ≡ sendIn (spacesIn x) (kindAt kind)
+  pub acknowledges : callBack (λ r. tt) (numberFor 1 kind x n len value) ≡ acknowledgeIn (spacesIn x) (kindAt kind) n
+  pub reads : callBack (λ r. r .number) (numberFor 2 kind x n len value) ≡ readIn (spacesIn x) (kindAt kind) (cut len value)
+  pub accepts : callBack (λ r. tt) (numberFor 3 kind x n len value) ≡ acceptIn (spacesIn x) (kindAt kind) n
 
--- where the flags are 0 or 1
+-- where the flags of the kind's space are 0 or 1
 abbrev pub StepIsCall : Type 0
-StepIsCall = (e : NumberEnds) (n len value : ℕ) → unkept e ≡ false → StepsAs e n len value
+StepIsCall =
+    (kind : ℕ) (x : NumberSpaces) (n len value : ℕ) → ((s : SpaceId) → spaceFor (kindAt kind) ≡ some s → unkept (of (eachIn x) s) ≡ false)
+    → StepsAs kind x n len value
 
--- a refused step, whatever its number, hands back the very record
+-- any step: its number, and the arguments behind it
+pub record Step : Type 0 where
+  pub step : ℕ
+  pub kind : ℕ
+  pub number : ℕ
+  pub len : ℕ
+  pub value : ℕ
+
+abbrev pub stepOn : Step → NumberSpaces → NumberAnswer
+stepOn p x = numberFor (p .step) (p .kind) x (p .number) (p .len) (p .value)
+
+-- the space that it names, if it names one
+abbrev pub names : Step → Option SpaceId
+names p = spaceFor (kindAt (p .kind))
+
+-- what an answer says: the refusal, and the numbers
+abbrev pub saidIn : NumberAnswer → ℕ × Numbers
+saidIn r = (r .refusal, numbers (r .number) (r .«number_len») (r .«number_value»))
+
+-- the ends of a space in an answer
+abbrev pub endsAt : SpaceId → NumberAnswer → NumberEnds
+endsAt s r = of (eachIn (r .spaces)) s
+
+-- a refused step hands back the very record
 abbrev pub RefusedIsSame : Type 0
-RefusedIsSame =
-    (step : ℕ) (e : NumberEnds) (n len value : ℕ) → (numberFor step e n len value .refusal ≡ 0 → ⊥) → numberFor step e n len value .ends ≡ e
+RefusedIsSame = (p : Step) (x : NumberSpaces) → (stepOn p x .refusal ≡ 0 → ⊥) → stepOn p x .spaces ≡ x
+
+-- a space that is not named comes back as it came, field by field
+abbrev pub OthersAsCame : Type 0
+OthersAsCame = (p : Step) (x : NumberSpaces) (t : SpaceId) → (names p ≡ some t → ⊥) → endsAt t (stepOn p x) ≡ of (eachIn x) t
+
+-- and is not looked at: of two records with the named space in common a step says the same, and leaves the same there
+abbrev pub OthersUnread : Type 0
+OthersUnread =
+    (p : Step) (x y : NumberSpaces) (s : SpaceId) → names p ≡ some s → of (eachIn x) s ≡ of (eachIn y) s
+    → (saidIn (stepOn p x) ≡ saidIn (stepOn p y)) × (endsAt s (stepOn p x) ≡ endsAt s (stepOn p y))
+
+-- two steps that name no space in common, in either order: the same two answers, and the same record in the end
+abbrev pub EitherOrder : Type 0
+EitherOrder =
+    (p q : Step) (x : NumberSpaces) → ((s : SpaceId) → names p ≡ some s → names q ≡ some s → ⊥) →
+    let a = stepOn p x in
+    let b = stepOn q (a .spaces) in
+    let b' = stepOn q x in
+    let a' = stepOn p (b' .spaces) in
+    (saidIn a ≡ saidIn a') × (saidIn b ≡ saidIn b') × (b .spaces ≡ a' .spaces)

@@ -14,6 +14,7 @@ pub use records::HeaderAnswer;
 pub use records::HeaderGiven;
 pub use records::NumberAnswer;
 pub use records::NumberEnds;
+pub use records::NumberSpaces;
 pub use records::SampleAnswer;
 pub use records::SplitAnswer;
 pub use records::UnmaskAnswer;
@@ -97,21 +98,22 @@ pub extern "C" fn guobbarel_frame_read(payload: &[u8], at: usize) -> FrameAnswer
     gateway_frame::read(payload, at)
 }
 
-// A step of the number ends: 0 send, 1 acknowledge, 2 read, 3 accept.
+// A step of the number ends, in the space of a packet's kind: 0 send, 1 acknowledge, 2 read, 3 accept.
 #[no_mangle]
 pub extern "C" fn guobbarel_number_step(
     step: u8,
-    ends: NumberEnds,
+    kind: u8,
+    spaces: NumberSpaces,
     number: u64,
     number_len: usize,
     number_value: u32,
 ) -> NumberAnswer
-    ensures { λ r. ⌜ r ≡ numberFor step ends number «number_len» «number_value» ⌝ }
+    ensures { λ r. ⌜ r ≡ numberFor step kind spaces number «number_len» «number_value» ⌝ }
 {
-    if numbers::is_unkept(ends) {
-        return numbers::answer(14, ends, 0, 0, 0);
-    }
-    numbers::step_by(step, ends, number, number_len, number_value)
+    let packet::Space::In(id) = spaces::space_of(packets::kind_of(kind)) else {
+        return numbers::answer(14, spaces, 0, 0, 0);
+    };
+    numbers::step_in(step, id, spaces, number, number_len, number_value)
 }
 
 // Writes a header from byte 0 of out on, for a payload of `payload_len` bytes to follow it.

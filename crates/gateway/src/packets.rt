@@ -19,7 +19,7 @@ ghost use lib.ListN.{length};
 ghost use Rattle.frame.specs.Table.{flag};
 ghost use Rattle.packet.specs.Said.{headerOf, outcomeOf, packetStepOf};
 ghost use Rattle.protect.specs.Said.{longHeader, numberedOf, numberLenOf, sampleOf, finishedOf};
-ghost use Rattle.gateway.specs.Arguments.{longKind, numberedKind, numberGiven};
+ghost use Rattle.gateway.specs.Arguments.{longKind, numberedKind, kindAt, numberGiven};
 ghost use Rattle.gateway.specs.Packets.{headerHas, headerRefused, saidNumbers, dstAt, srcAt, splitRecord, noPacketRecord, stepRecord, noSample, sampleRecord, headerSpan, payloadSpan, notOpened, openedWith, unmaskRecord};
 
 // What a header alone has.
@@ -41,7 +41,7 @@ pub(crate) fn flag_of(b: bool) -> u8
 
 // The kind by its number; what is past 4 counts as Version Negotiation.
 pub(crate) fn kind_of(kind: u8) -> Kind
-    ensures { λ r. ⌜ (longHeader r ≡ longKind kind) × (numberedOf r ≡ numberedKind kind) ⌝ }
+    ensures { λ r. ⌜ (longHeader r ≡ longKind kind) × (numberedOf r ≡ numberedKind kind) × (r ≡ kindAt kind) ⌝ }
 {
     match kind {
         0 => Kind::Initial,

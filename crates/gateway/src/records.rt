@@ -48,14 +48,22 @@ pub struct NumberEnds {
     pub has_largest: u8,
 }
 
-// The ends after a step, and what the step says.
+// The number ends of the three spaces.
+#[repr(C)]
+pub struct NumberSpaces {
+    pub initial: NumberEnds,
+    pub handshake: NumberEnds,
+    pub data: NumberEnds,
+}
+
+// The record after a step, and what the step says.
 #[repr(C)]
 pub struct NumberAnswer {
     pub refusal: u8,
     pub number_value: u32,
     pub number_len: usize,
     pub number: u64,
-    pub ends: NumberEnds,
+    pub spaces: NumberSpaces,
 }
 
 // The header to write, without its connection ids and its token.

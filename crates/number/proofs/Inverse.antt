@@ -50,7 +50,7 @@ abbrev largestAt : SoFar → Largest
 largestAt none = largest.Nothing
 largestAt (at m) = largest.At (record { 0 = m })
 
-abbrev spaceOf : Ends → Space
+abbrev pub spaceOf : Ends → Space
 spaceOf e = record { next = record { 0 = e .next }; acked = largestAt (e .acked); largest = largestAt (e .largest) }
 
 largest-back : (l : Largest) → largestAt (soFarOf l) ≡ l
@@ -58,7 +58,7 @@ unfolding soFarOf
 largest-back largest.Nothing = refl
 largest-back (largest.At m) = refl
 
-space-back : (s : Space) → spaceOf (endsOf s) ≡ s
+pub space-back : (s : Space) → spaceOf (endsOf s) ≡ s
 space-back s i = record { next = s .next; acked = largest-back (s .acked) i; largest = largest-back (s .largest) i }
 
 pub space-one : (x y : Space) (g : Ends) → endsOf x ≡ g → endsOf y ≡ g → x ≡ y

@@ -1,5 +1,7 @@
-// Prints what `number` answers to packed cases, a line for a case (cases/src/stdio.rt).
-mod numbers; // numbers.rt: the operations of `number`
+// Prints what `number` and `spaces` answer to packed cases, a line for a case (cases/src/stdio.rt).
+mod numbers; // numbers.rt: packet numbers
+mod one_space; // one_space.rt: a run of steps over one space
+mod three_spaces; // three_spaces.rt: a run of steps over the record of three
 
 use cases::line;
 use cases::line::Answer;
@@ -28,7 +30,8 @@ fn answer(op: u8, rec: &[u8], work: &mut [u8], out: &mut [u8], at: usize) -> usi
     let b = record::bytes(rec, 0);
     match op {
         42 => numbers::pnenc(ns, b, work, out, at),
-        45 => numbers::ends(b, out, at),
+        45 => one_space::ends(b, out, at),
+        49 => three_spaces::spaces(b, out, at),
         _ => line::say(out, at, said(op, ns, b)),
     }
 }

@@ -1,7 +1,7 @@
 //! The client Initial of RFC 9001, A.2 (version 1) or of RFC 9369, A.2 (version 2), from its bytes to its frames. What the AEAD would
 //! give, the mask and the payload in the clear, stands beside it (the masks as in the RFCs; the payload, the same in both, in
 //! payload.hex).
-use guobbarel::{Ends, Frame, Frames, Packets, Unmasked, VERSION_1, VERSION_2, sample, unmask};
+use guobbarel::{Frame, Frames, Kind, Packets, Spaces, Unmasked, VERSION_1, VERSION_2, sample, unmask};
 use std::process::ExitCode;
 
 /// What the two RFCs do not share, and the word that asks for it.
@@ -46,7 +46,7 @@ fn show(example: &A2) {
 
     let (packet, open) = opened(example, &mut datagram);
     println!("header {}", hex(&packet[open.header]));
-    let number = Ends::new().read(open.number).expect("the cut number keeps its rule");
+    let number = Spaces::new().read(Kind::Initial, open.number).expect("the cut number keeps its rule");
     println!("number {number}, cut to {} bytes; reserved bits clear: {}", open.number.len(), open.reserved_clear);
     println!("{} bytes of payload with their tag, {} in the clear", open.payload.len(), payload.len());
 

@@ -15,7 +15,7 @@
 //! frames PAYLOAD                     for each frame: TYPE PLACE
 //! ```
 //! Versions 1 and 2 are listed. What is refused is answered with `refused` and the error's number, what cannot be read with `bad`.
-use guobbarel::{CutNumber, Ends, Error, Frames, FullNumber, Header, Kind, Packets, Written};
+use guobbarel::{CutNumber, Ends, Error, Frames, FullNumber, Header, Kind, Packets, Spaces, Written};
 use guobbarel::{VERSION_1, VERSION_2, sample, unmask};
 use std::io::{BufRead, Write};
 use std::str::FromStr;
@@ -103,15 +103,20 @@ fn place(whole: &[u8], part: &[u8]) -> String {
     format!("{start}+{}", part.len())
 }
 
+/// Spaces with these ends, whatever the kind: a question does not name its space.
+fn alike(ends: Ends) -> Spaces {
+    Spaces::from_parts(ends, ends, ends)
+}
+
 fn number(words: &mut Words) -> Result<String, No> {
     let next = FullNumber::new(words.number()?);
-    let cut = Ends::from_parts(next, words.full_or_none()?, None).send()?.cut;
+    let cut = alike(Ends::from_parts(next, words.full_or_none()?, None)).send(Kind::Short)?.cut;
     Ok(format!("{} {}", cut.len(), cut.value()))
 }
 
 fn expand(words: &mut Words) -> Result<String, No> {
-    let ends = Ends::from_parts(FullNumber::new(0), None, words.full_or_none()?);
-    Ok(ends.read(CutNumber::new(words.number()?, words.number()?))?.to_string())
+    let spaces = alike(Ends::from_parts(FullNumber::new(0), None, words.full_or_none()?));
+    Ok(spaces.read(Kind::Short, CutNumber::new(words.number()?, words.number()?))?.to_string())
 }
 
 fn header(words: &mut Words) -> Result<String, No> {

@@ -23,7 +23,7 @@ const fn op(code: u8, name: &'static str, fields: &'static str, run: Run) -> Op 
     Op { code, name, fields, run }
 }
 
-pub const OPS: [Op; 50] = [
+pub const OPS: [Op; 51] = [
     // varint.rs, coding.rs
     op(1, "vread", "nb", leaf::vread),
     op(2, "vfrom", "n", leaf::vfrom),
@@ -62,6 +62,7 @@ pub const OPS: [Op; 50] = [
     op(46, "decode", "nnvb", packet::probe::decode),
     op(47, "sample", "knb", packet::probe::sample),
     op(48, "hmask", "nnnnbb", packet::probe::hmask),
+    op(49, "spaces", "b", packet::probe::spaces),
     // frame.rs
     op(64, "frames", "b", frame::probe::frames),
     op(66, "ackscan", "nnnb", frame::probe::ackscan),
@@ -76,7 +77,7 @@ pub const OPS: [Op; 50] = [
     op(97, "gsample", "nnb", packet::probe::gsample),
     op(98, "gunmask", "nnbb", packet::probe::gunmask),
     op(99, "gframe", "nb", frame::probe::gframe),
-    op(100, "gnumber", "nnnnr", packet::probe::gnumber),
+    op(100, "gnumber", "nnnnnrrr", packet::probe::gnumber),
     op(101, "gheader", "nnnnnnrbbbb", packet::probe::gheader),
     op(102, "gmask", "nnnbb", packet::probe::gmask),
 ];

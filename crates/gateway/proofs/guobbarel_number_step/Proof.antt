@@ -1,25 +1,46 @@
-use Rattle.coding.specs.Words.{if_then_else_}
+use mathlib.Core.Path.{_∙_, ap}
+use Rattle.spaces.specs.Each.{spaceFor}
+use Rattle.spaces.specs.Calls.{lifted}
 use borrow.Author.Needs.{needs}
 use Rattle.gateway.proofs.guobbarel_number_step.Statement.{statement}
 use Rattle.gateway.proofs.guobbarel_number_step.Tie as tie
 
-is-unkept-requires : tie.Need-is-unkept-requires
-is-unkept-requires c κs = search needs
+kind-of-requires : tie.Need-kind-of-requires
+kind-of-requires c κs = search needs
+
+space-of-requires : tie.Need-space-of-requires
+space-of-requires c κs = search needs
+
+enum-known-id : tie.Need-enum-known-id
+enum-known-id c = search needs
+
+enum-told : tie.Need-enum-told
+enum-told c = search needs
 
 answer-requires : tie.Need-answer-requires
 answer-requires c κs = search needs
 
 returns : tie.Need-returns
-unfolding if_then_else_
-returns c = rw (c .answer .ensures, ← c .before .before .is-unkept .ensures, c .before .if1 .taken)
+unfolding lifted
+returns c = let q = rw (c .before .enum-told .given .1) at (c .before .before .before .space-of .ensures) in
+    rw (c .answer .ensures, ← (q ∙ ap spaceFor (c .before .before .before .before .kind-of .ensures .2)))
 
-step-by-requires : tie.Need-step-by-requires
-step-by-requires c κs = search needs
+step-in-requires : tie.Need-step-in-requires
+step-in-requires c κs = search needs
 
 returns-2 : tie.Need-returns-2
-unfolding if_then_else_
-returns-2 c = rw (c .step-by .ensures, ← c .before .before .is-unkept .ensures, c .before .if1 .left)
+returns-2 c = let q = rw (c .before .before .id .given .1) at (c .before .before .before .before .space-of .ensures) in
+    rw (c .step-in .ensures, ← (q ∙ ap spaceFor (c .before .before .before .before .before .kind-of .ensures .2)))
 
 pub guobbarel-number-step-spec : {M : Type 1} → statement M
 guobbarel-number-step-spec =
-    tie.close (tie.spec is-unkept-requires answer-requires returns step-by-requires returns-2)
+    tie.close
+    (tie.spec
+    kind-of-requires
+    space-of-requires
+    enum-known-id
+    enum-told
+    answer-requires
+    returns
+    step-in-requires
+    returns-2)

@@ -3,7 +3,7 @@
 use super::super::rng::{END, Rng};
 use super::super::table::KINDS;
 use super::super::words::{hex, unhex};
-use super::number::{distance, near, read, set_to};
+use super::number::{SPACE, distance, near, read, set_to};
 use super::{Made, answered, frame, packet, packet_out};
 
 pub const MADE: &[Made] = &[
@@ -11,7 +11,7 @@ pub const MADE: &[Made] = &[
     ("gsample", 3, gsample),
     ("gunmask", 12, gunmask),
     ("gframe", 20, gframe),
-    ("gnumber", 10, gnumber),
+    ("gnumber", 15, gnumber),
     ("gheader", 10, gheader),
     ("gmask", 8, gmask),
 ];
@@ -89,15 +89,36 @@ fn gframe(r: &mut Rng) -> String {
     format!("{} {payload}", place(r, &starts, len(&payload)))
 }
 
-/// Ends around those that steps can have made, and numbers around them.
+/// The number ends of a space, as numbers: next, acked, largest, and whether there is each of the two.
+type Ends = [u64; 5];
+
+/// A step by a kind, over ends around those that steps can have made; one time in four with numbers from where any space stands. Of
+/// the spaces that it does not name half have any fields.
 fn gnumber(r: &mut Rng) -> String {
-    let next = if r.one_in(4) { set_to(r) } else { distance(r) };
-    let largest = if r.one_in(4) { set_to(r) } else { r.below(1 << 33) };
-    let acked = if r.one_in(3) { near(r, next) } else { next.saturating_sub(distance(r)) };
+    let (step, kind) = (below(r, 4), below(r, 6));
+    let mut spaces = [(); 4].map(|()| ends(r));
+    let named = SPACE.get(kind as usize).copied().unwrap_or(3);
+    let [next, acked, largest, ..] = if r.one_in(4) { r.pick(&spaces) } else { spaces[named] };
     let about = r.pick(&[next, acked, largest]);
     let (n, (_, k, value)) = (near(r, about), read(r, largest));
-    let (step, has_acked, has_largest) = (below(r, 4), below(r, 2), below(r, 2));
-    format!("{step} {n} {k} {value} {next},{acked},{largest},{has_acked},{has_largest}")
+    for (_, other) in spaces.iter_mut().enumerate().filter(|(space, _)| *space != named) {
+        if r.one_in(2) {
+            *other = [r.any(), r.any(), r.any(), r.pick(&[0, 1, 2, 255]), r.pick(&[0, 1, 2, 255])];
+        }
+    }
+    format!("{step} {kind} {n} {k} {value} {}", three(&spaces[..3]))
+}
+
+fn ends(r: &mut Rng) -> Ends {
+    let next = if r.one_in(4) { set_to(r) } else { distance(r) };
+    let largest = if r.one_in(2) { set_to(r) } else { r.below(1 << 33) };
+    let acked = if r.one_in(3) { near(r, next) } else { next.saturating_sub(distance(r)) };
+    [next, acked, largest, below(r, 2), below(r, 2)]
+}
+
+/// The words of three spaces.
+fn three(spaces: &[Ends]) -> String {
+    spaces.iter().map(|ends| ends.map(|n| n.to_string()).join(",")).collect::<Vec<String>>().join(" ")
 }
 
 /// A header for the surface, of the words of `henc`: what its kind does not have is any.
@@ -191,20 +212,47 @@ fn of_surface(emit: &mut dyn FnMut(String), line: &str) {
     }
 }
 
-/// Every step with ends and numbers at their edges.
+/// Every step with ends and numbers at their edges; every kind and step.
 fn numbers(emit: &mut dyn FnMut(String)) {
     let nexts = [0, 1, 128, 1 << 15, 1 << 23, (1 << 31) + 1, END - 1, END, END + 1, u64::MAX];
     let largests = [0, 300, END - 2, END - 1, END];
+    let mut turn = 0;
     for (next, largest) in nexts.into_iter().flat_map(|next| largests.map(|largest| (next, largest))) {
         for (acked, flags) in [0, 1, next.wrapping_sub(1)].into_iter().flat_map(|a| (0..9).map(move |f| (a, f))) {
-            let ends = format!("{next},{acked},{largest},{},{}", flags / 3, flags % 3);
+            let ends = [next, acked, largest, flags / 3, flags % 3];
+            let mut ask = |step: u64, asked: [u64; 3]| in_each_space(emit, &mut turn, step, asked, ends);
             for n in [0, 1, next.wrapping_sub(1), next, END - 1, END] {
-                (1..4).step_by(2).for_each(|step| emit(format!("gnumber {step} {n} 9 9 {ends}")));
+                (1..4).step_by(2).for_each(|step| ask(step, [n, 9, 9]));
             }
             for (k, value) in [(0, 0), (1, 0), (1, 255), (1, 256), (2, 1), (3, 1 << 24), (4, 77), (5, 0)] {
-                emit(format!("gnumber 2 9 {k} {value} {ends}"));
+                ask(2, [9, k, value]);
             }
-            [0, 4, 255].iter().for_each(|step| emit(format!("gnumber {step} 9 9 9 {ends}")));
+            [0, 4, 255].iter().for_each(|&step| ask(step, [9; 3]));
         }
+    }
+    // each space answers these steps otherwise
+    let apart = [[20, 11, END, 1, 1], [30, 21, 22, 1, 1], [40, 40, 32, 1, 1]];
+    for (kind, spaces) in (0..=0xff).flat_map(|kind| [(kind, &apart), (kind, &[ODD[0], ODD[1], ODD[2]])]) {
+        [0, 1, 2, 3, 4, 255].iter().for_each(|step| emit(format!("gnumber {step} {kind} 25 1 7 {}", three(spaces))));
+    }
+}
+
+/// What a space that is not named may hold: flags that are none, numbers beside a flag of 0, numbers past 2^62, acknowledged but
+/// not sent.
+const ODD: [Ends; 5] = [
+    [7, 8, 9, 2, 255],
+    [5, 9, 9, 0, 0],
+    [END + 1, u64::MAX, END, 1, 1],
+    [u64::MAX, END, 1 << 63, 255, 2],
+    [3, 3, 0, 1, 0],
+];
+
+/// A step over these ends as each of the three spaces, beside two odd ones, which go by turns; so do the kinds that use Data.
+fn in_each_space(emit: &mut dyn FnMut(String), turn: &mut usize, step: u64, [n, k, value]: [u64; 3], ends: Ends) {
+    for (space, kinds) in [[0, 0], [2, 2], [1, 4]].iter().enumerate() {
+        let mut spaces = [ODD[*turn % 5], ODD[(*turn + 1) % 5], ODD[(*turn + 2) % 5]];
+        spaces[space] = ends;
+        emit(format!("gnumber {step} {} {n} {k} {value} {}", kinds[*turn % 2], three(&spaces)));
+        *turn += 1;
     }
 }

@@ -1,4 +1,4 @@
-//! Cases of packet numbers and of the two number ends.
+//! Cases of packet numbers and of the two number ends, of one space and of three.
 use super::super::rng::{END, Rng};
 use super::super::words::hex;
 use super::{Made, around_62, bytes, edges};
@@ -11,6 +11,7 @@ pub const MADE: &[Made] = &[
     ("pnlen", 1, |r| r.below(256).to_string()),
     ("pntag", 4, pntag),
     ("ends", 3, ends),
+    ("spaces", 16, spaces),
 ];
 
 /// The distances from which on a number takes more bytes, or is too far.
@@ -115,53 +116,95 @@ const SET_LARGEST: u8 = 6;
 
 type Step = (u8, u64, u32);
 
+/// A packet's kind, as its number, and a step of its space.
+type Named = (u8, Step);
+
+/// Of each kind its space: Initial, Handshake, Data, or none.
+pub const SPACE: [usize; 6] = [0, 2, 1, 3, 2, 3];
+/// The kinds that have a number, and those that have none.
+const NUMBERED: [u8; 4] = [0, 1, 2, 4];
+const UNNUMBERED: [u8; 2] = [3, 5];
+
+fn put_step(b: &mut Vec<u8>, kind: Option<u8>, (step, n, v): Step) {
+    b.push(step);
+    b.extend(kind);
+    b.extend(n.to_be_bytes());
+    b.extend(v.to_be_bytes());
+}
+
 fn packed(steps: &[Step]) -> String {
     let mut b = Vec::new();
-    for (step, n, v) in steps {
-        b.push(*step);
-        b.extend(n.to_be_bytes());
-        b.extend(v.to_be_bytes());
-    }
+    steps.iter().for_each(|&step| put_step(&mut b, None, step));
     hex(&b)
 }
 
-/// A run: about as many steps of each call, with numbers around those that the calls before can have used; in every other
-/// run the record is set as well, far on, at the end of all numbers, or as no calls can have made it.
+fn packed_named(steps: &[Named]) -> String {
+    let mut b = Vec::new();
+    steps.iter().for_each(|&(kind, step)| put_step(&mut b, Some(kind), step));
+    hex(&b)
+}
+
+/// Roughly where a space stands in a run.
+#[derive(Clone, Copy, Default)]
+struct Stand {
+    next: u64,
+    largest: u64,
+}
+
+/// A run in one space; in every other one the record is set as well.
 fn ends(r: &mut Rng) -> String {
-    let sets = r.one_in(2);
-    let (mut next, mut largest) = (0u64, 0u64); // roughly where the run stands
+    let (sets, mut at) = (r.one_in(2), Stand::default());
     let mut steps = Vec::new();
     for _ in 0..1 + r.below(40) {
-        let step = match r.below(if sets { 12 } else { 9 }) {
-            0..3 => {
-                next = next.saturating_add(1);
-                (SEND, 0, 0)
-            }
-            3 | 4 => (ACKNOWLEDGE, near(r, next), 0),
-            5 | 6 => read(r, largest),
-            7 | 8 => {
-                let about = r.pick(&[next, largest]);
-                let n = near(r, about);
-                largest = largest.max(n);
-                (ACCEPT, n, 0)
-            }
-            9 => {
-                next = if r.one_in(2) { near(r, next).saturating_add(distance(r)) } else { set_to(r) };
-                (SET_NEXT, next, 0)
-            }
-            10 => (
-                SET_ACKED,
-                if r.one_in(2) { near(r, next) } else { next.saturating_sub(distance(r)) },
-                r.below(4) as u32,
-            ),
-            _ => {
-                largest = set_to(r);
-                (SET_LARGEST, largest, r.below(4) as u32)
-            }
-        };
-        steps.push(step);
+        let about = at;
+        steps.push(step(r, sets, &mut at, about));
     }
     packed(&steps)
+}
+
+/// A run in three spaces, by packets of every kind. One step in six has its numbers from where any of them stands.
+fn spaces(r: &mut Rng) -> String {
+    let (sets, mut stands) = (r.one_in(2), [Stand::default(); 4]);
+    let mut steps = Vec::new();
+    for _ in 0..1 + r.below(120) {
+        let kind = if r.one_in(6) { r.pick(&UNNUMBERED) } else { r.pick(&NUMBERED) };
+        let own = SPACE[usize::from(kind)];
+        let about = if r.one_in(6) { r.pick(&stands) } else { stands[own] };
+        steps.push((kind, step(r, sets, &mut stands[own], about)));
+    }
+    packed_named(&steps)
+}
+
+/// A step: about as many of each call, with numbers around those that the calls of a space can have used; where the record is set
+/// as well, far on, at the end of all numbers, or as no calls can have made it.
+fn step(r: &mut Rng, sets: bool, at: &mut Stand, about: Stand) -> Step {
+    match r.below(if sets { 12 } else { 9 }) {
+        0..3 => {
+            at.next = at.next.saturating_add(1);
+            (SEND, 0, 0)
+        }
+        3 | 4 => (ACKNOWLEDGE, near(r, about.next), 0),
+        5 | 6 => read(r, about.largest),
+        7 | 8 => {
+            let about = r.pick(&[about.next, about.largest]);
+            let n = near(r, about);
+            at.largest = at.largest.max(n);
+            (ACCEPT, n, 0)
+        }
+        9 => {
+            at.next = if r.one_in(2) { near(r, about.next).saturating_add(distance(r)) } else { set_to(r) };
+            (SET_NEXT, at.next, 0)
+        }
+        10 => (
+            SET_ACKED,
+            if r.one_in(2) { near(r, about.next) } else { about.next.saturating_sub(distance(r)) },
+            r.below(4) as u32,
+        ),
+        _ => {
+            at.largest = set_to(r);
+            (SET_LARGEST, at.largest, r.below(4) as u32)
+        }
+    }
 }
 
 /// A number of a run: a little below n, n, just past it; rarely any.
@@ -258,37 +301,51 @@ fn ceiling(emit: &mut dyn FnMut(String)) {
                 emit(format!("pnexp {k} {value} {expected}"));
                 let steps = [(SET_LARGEST, expected - 1, 1), (READ, k, value as u32)];
                 emit(format!("ends {}", packed(&steps)));
+                let kind = NUMBERED[value as usize % NUMBERED.len()];
+                emit(format!("spaces {}", packed_named(&steps.map(|step| (kind, step)))));
             }
         }
     }
 }
 
-/// Every run of up to four of these steps.
+/// In one space every run of up to four of these steps; in three, by packets of every kind, of up to two, and of three of the first.
 fn runs(emit: &mut dyn FnMut(String)) {
+    const FIRST: usize = 10;
     const STEPS: [Step; 18] = [
         (SEND, 0, 0),
         (ACKNOWLEDGE, 0, 0),
         (ACKNOWLEDGE, 1, 0),
-        (READ, 1, 0),
         (READ, 1, 255),
-        (READ, 5, 0),
         (ACCEPT, 0, 0),
         (ACCEPT, 300, 0),
-        (ACCEPT, END - 1, 0),
         (ACCEPT, END, 0),
+        (SET_NEXT, 1 << 31, 0),
+        (SET_ACKED, 1, 1),
+        (SET_LARGEST, END, 1),
+        (READ, 1, 0),
+        (READ, 5, 0),
+        (ACCEPT, END - 1, 0),
         (SET_NEXT, 1 << 7, 0),
         (SET_NEXT, 1 << 15, 0),
-        (SET_NEXT, 1 << 31, 0),
         (SET_NEXT, END - 1, 0),
         (SET_NEXT, END + 1, 0),
         (SET_ACKED, 0, 0),
-        (SET_ACKED, 1, 1),
-        (SET_LARGEST, END, 1),
     ];
-    for len in 1..=4 {
-        for run in 0..STEPS.len().pow(len) {
-            let steps: Vec<Step> = (0..len).map(|i| STEPS[run / STEPS.len().pow(i) % STEPS.len()]).collect();
-            emit(format!("ends {}", packed(&steps)));
-        }
+    let mut in_one = |steps: &[Step]| emit(format!("ends {}", packed(steps)));
+    (1..=4).for_each(|len| every_run(&STEPS, len, &mut in_one));
+    let mut in_three = |steps: &[Named]| emit(format!("spaces {}", packed_named(steps)));
+    (1..=2).for_each(|len| every_run(&by_every_kind(&STEPS), len, &mut in_three));
+    every_run(&by_every_kind(&STEPS[..FIRST]), 3, &mut in_three);
+}
+
+fn by_every_kind(steps: &[Step]) -> Vec<Named> {
+    (0..6).flat_map(|kind| steps.iter().map(move |&step| (kind, step))).collect()
+}
+
+/// Hands out every run of so many of these steps.
+fn every_run<T: Copy>(steps: &[T], len: u32, each: &mut dyn FnMut(&[T])) {
+    for run in 0..steps.len().pow(len) {
+        let run: Vec<T> = (0..len).map(|i| steps[run / steps.len().pow(i) % steps.len()]).collect();
+        each(&run);
     }
 }

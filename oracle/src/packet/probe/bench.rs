@@ -69,11 +69,65 @@ impl Cut {
     }
 }
 
+/// A cut number, not of three bytes, with its length above its four bytes.
+#[inline]
+fn said(cut: PacketNumber) -> u64 {
+    u64::from(raw(cut)) | (cut.len() as u64) << 32
+}
+
 /// Numbers cut, none of them to three bytes: how many, and the exclusive or of all, each with its length above its four bytes.
 #[inline]
 pub fn cut(numbers: &[u64], acked: u64) -> (u64, u64) {
-    let said = |cut: PacketNumber| u64::from(raw(cut)) | (cut.len() as u64) << 32;
     numbers.iter().fold((0, 0), |(count, mixed), &n| (count + 1, mixed ^ said(PacketNumber::new(n, acked))))
+}
+
+/// The number ends of the three spaces, kept plainly: quinn has its own in text that is not given.
+#[derive(Clone, Copy)]
+pub struct Ends([Plain; 3]);
+
+#[derive(Clone, Copy)]
+struct Plain {
+    next: u64,
+    acked: Option<u64>,
+    largest: Option<u64>,
+}
+
+/// A step in a space.
+pub enum Step {
+    Send,
+    Acknowledge(u64),
+    Read(Cut),
+    Accept(u64),
+}
+
+impl Ends {
+    /// The same in each space.
+    pub fn new(next: u64, acked: u64, largest: u64) -> Self {
+        Self([Plain { next, acked: Some(acked), largest: Some(largest) }; 3])
+    }
+
+    /// Steps in spaces 0 to 2: how many, and the exclusive or of the numbers that are sent, as `cut` has them, and read.
+    #[inline]
+    pub fn take(&mut self, steps: &[(usize, Step)]) -> (u64, u64) {
+        steps.iter().fold((0, 0), |(count, mixed), (space, step)| (count + 1, mixed ^ self.0[*space].take(step)))
+    }
+}
+
+impl Plain {
+    #[inline]
+    fn take(&mut self, step: &Step) -> u64 {
+        match step {
+            Step::Send => {
+                let sent = said(PacketNumber::new(self.next, self.acked.unwrap_or(0)));
+                self.next += 1;
+                return sent;
+            }
+            Step::Acknowledge(n) => self.acked = self.acked.max(Some(*n)),
+            Step::Read(cut) => return cut.0.expand(self.largest.map_or(0, |largest| largest + 1)),
+            Step::Accept(n) => self.largest = self.largest.max(Some(*n)),
+        }
+        0
+    }
 }
 
 /// A header to write.

@@ -1,13 +1,17 @@
-//! The two number ends: a model, from document 01. quinn has no such record; the cut is its own, and the reading, but where
-//! request 04 follows A.3.
+//! The two number ends, of one space and of three: a model, from documents 01 and 02 (request 08). The given text has no such records;
+//! the space of a packet is quinn's own word, the cut too, and the reading, but where request 04 follows A.3.
 use super::super::PacketNumber;
 use super::number::{is_cut, read, sent};
+use super::reading::Taken;
 use crate::harness::differences::{CEILING, mark_if};
 use crate::harness::rng::END;
+use crate::harness::table::KINDS;
 use crate::harness::words::{Args, Bad};
 
-/// A step in the run: its number, then a number of 8 bytes and one of 4.
-const STEP: usize = 13;
+/// The bytes of a step in a run behind its first ones: a number of 8 bytes and one of 4.
+const NUMBERS: usize = 12;
+/// From this step on a step sets the record.
+const SET: u8 = 4;
 
 #[derive(Default)]
 pub(super) struct Ends {
@@ -16,18 +20,39 @@ pub(super) struct Ends {
     pub largest: Option<u64>,
 }
 
-/// ends STEPS
+/// Initial, Handshake, Data.
+#[derive(Default)]
+struct Spaces([Ends; 3]);
+
+/// ends STEPS, each its number, then two numbers
 pub(crate) fn ends(a: &mut Args, out: &mut String) -> Result<(), Bad> {
+    let mut ends = Ends::default();
+    run(a, out, |[step], n, v| Ok((ends.step(step, n, v)?, ends.shown())))
+}
+
+/// spaces STEPS, each its number, the packet's kind, then two numbers
+pub(crate) fn spaces(a: &mut Args, out: &mut String) -> Result<(), Bad> {
+    let mut spaces = Spaces::default();
+    run(a, out, |[step, kind], n, v| Ok((spaces.step(step, kind, n, v)?, spaces.shown())))
+}
+
+/// A run of steps: what each says, and the record after it.
+fn run<const FIRST: usize>(
+    a: &mut Args,
+    out: &mut String,
+    mut step: impl FnMut([u8; FIRST], u64, u32) -> Result<(Answer, String), Bad>,
+) -> Result<(), Bad> {
     let steps = a.bytes()?;
-    if !steps.len().is_multiple_of(STEP) {
+    if !steps.len().is_multiple_of(FIRST + NUMBERS) {
         return Err(Bad);
     }
-    let mut ends = Ends::default();
     let mut is_other = false;
-    for step in steps.chunks(STEP) {
-        let n = u64::from_be_bytes(step[1..9].try_into().unwrap());
-        let v = u32::from_be_bytes(step[9..].try_into().unwrap());
-        match ends.step(step[0], n, v)? {
+    for bytes in steps.chunks(FIRST + NUMBERS) {
+        let (first, numbers) = bytes.split_at(FIRST);
+        let n = u64::from_be_bytes(numbers[..8].try_into().unwrap());
+        let v = u32::from_be_bytes(numbers[8..].try_into().unwrap());
+        let (said, record) = step(first.try_into().unwrap(), n, v)?;
+        match said {
             Ok(Said::Set) => out.push_str("set"),
             Ok(Said::Kept) => out.push_str("ok"),
             Ok(Said::Read(n, other)) => {
@@ -37,14 +62,10 @@ pub(crate) fn ends(a: &mut Args, out: &mut String) -> Result<(), Bad> {
             Ok(Said::Sent(n, k, value)) => *out += &format!("ok {n} {k} {value}"),
             Err(why) => *out += &format!("no {why}"),
         }
-        *out += &format!(" : {} {} {};", ends.next, shown(ends.acked), shown(ends.largest));
+        *out += &format!(" :{record};");
     }
     *out += &mark_if(is_other, CEILING);
     Ok(())
-}
-
-fn shown(n: Option<u64>) -> String {
-    n.map_or("-".into(), |n| n.to_string())
 }
 
 /// What a step says: nothing but that it was done; the number that was read, and whether the Rust reads another; the one that
@@ -57,13 +78,44 @@ pub(super) enum Said {
 }
 
 /// Or the refusal's number.
-type Answer = Result<Said, u32>;
+pub(super) type Answer = Result<Said, u32>;
+
+/// The place of a packet's space in the record of three, which is quinn's own word for it: 0-RTT and short packets use Data; Retry and
+/// Version Negotiation have no number, and no space.
+pub(super) fn space_of(kind: u8) -> Option<usize> {
+    let (kind, _) = KINDS.get(usize::from(kind))?;
+    let packet = Taken { kind, offset: 0, packet: Vec::new() }.partial();
+    packet.space().map(|space| space as usize)
+}
+
+impl Spaces {
+    /// A step in the space of this kind. Where there is none, a call is 14 and nothing is set.
+    fn step(&mut self, step: u8, kind: u8, n: u64, v: u32) -> Result<Answer, Bad> {
+        if usize::from(kind) >= KINDS.len() {
+            return Err(Bad);
+        }
+        match space_of(kind) {
+            Some(space) => self.0[space].step(step, n, v),
+            None if step < SET => Ok(Err(14)),
+            None => Ends::default().step(step, n, v),
+        }
+    }
+
+    fn shown(&self) -> String {
+        self.0.iter().map(Ends::shown).collect()
+    }
+}
 
 impl Ends {
+    fn shown(&self) -> String {
+        let or_none = |n: Option<u64>| n.map_or("-".into(), |n| n.to_string());
+        format!(" {} {} {}", self.next, or_none(self.acked), or_none(self.largest))
+    }
+
     fn step(&mut self, step: u8, n: u64, v: u32) -> Result<Answer, Bad> {
         let at = (v != 0).then_some(n);
         match step {
-            0..=3 => return Ok(self.call(step, n, n, v)),
+            ..SET => return Ok(self.call(step, n, n, v)),
             4 => self.next = n,
             5 => self.acked = at,
             6 => self.largest = at,

@@ -3,7 +3,7 @@
 //! handed out. What the Rust has no word for (a kind above 5, a flag that is not 0 or 1, a step above 3, a mask that is not of
 //! five bytes) is 14 by include/guobbarel.h, without a mark.
 use super::super::*;
-use super::ends::{Ends, Said};
+use super::ends::{Answer, Ends, Said, space_of};
 use super::number::raw;
 use super::reading::{MAX_DATAGRAM, Reader, Taken, number, sampled};
 use super::version_2::{self, Types};
@@ -185,29 +185,49 @@ fn unmasked(p: &Packet, offset: usize) -> String {
     record(&[&fields[..], &places].concat(), &[&p.header_data, &p.payload, &after])
 }
 
-/// gnumber STEP NUMBER LEN VALUE ENDS, which are NEXT,ACKED,LARGEST,HASACKED,HASLARGEST: the model
+/// The number ends of a space as the surface has them: NEXT,ACKED,LARGEST,HASACKED,HASLARGEST.
+type EndsGiven = [u64; 5];
+
+fn ends(a: &mut Args) -> Result<EndsGiven, Bad> {
+    let given: EndsGiven = a.list()?.try_into().map_err(|_| Bad)?;
+    if given[3].max(given[4]) > 255 { Err(Bad) } else { Ok(given) }
+}
+
+/// gnumber STEP KIND NUMBER LEN VALUE INITIAL HANDSHAKE DATA: the model
 pub(crate) fn gnumber(a: &mut Args, out: &mut String) -> Result<(), Bad> {
-    let (step, n, k, value) = (byte(a)?, a.num()?, a.num()?, word(a)?);
-    let given: [u64; 5] = a.list()?.try_into().map_err(|_| Bad)?;
-    let [next, acked, largest, has_acked, has_largest] = given;
-    if has_acked.max(has_largest) > 255 {
-        return Err(Bad);
+    let (step, kind, n, k, value) = (byte(a)?, byte(a)?, a.num()?, a.num()?, word(a)?);
+    let mut spaces = [ends(a)?, ends(a)?, ends(a)?];
+    let said = match space_of(kind) {
+        Some(space) => stepped(&mut spaces[space], |ends| ends.call(step, n, k, value)),
+        None => Err(14),
+    };
+    let is_other = matches!(said, Ok(Said::Read(_, true)));
+    let answer = match said {
+        Err(why) => [why.into(), 0, 0, 0],
+        Ok(Said::Read(n, _)) => [0, 0, 0, n],
+        Ok(Said::Sent(n, k, value)) => [0, value.into(), k as u64, n],
+        Ok(Said::Kept | Said::Set) => [0; 4],
+    };
+    *out += &record(&[&answer[..], &spaces.concat()].concat(), &[]);
+    *out += &mark_if(is_other, CEILING);
+    Ok(())
+}
+
+/// A step of the space that is named; after a refusal and a read it is as it came.
+fn stepped(given: &mut EndsGiven, call: impl FnOnce(&mut Ends) -> Answer) -> Answer {
+    let [next, acked, largest, has_acked, has_largest] = *given;
+    if has_acked.max(has_largest) > 1 {
+        return Err(14);
     }
     let mut ends =
         Ends { next, acked: (has_acked == 1).then_some(acked), largest: (has_largest == 1).then_some(largest) };
-    let said = if has_acked.max(has_largest) > 1 { Err(14) } else { ends.call(step, n, k, value) };
-    let has = |n: Option<u64>| u64::from(n.is_some());
-    let after = [ends.next, ends.acked.unwrap_or(0), ends.largest.unwrap_or(0), has(ends.acked), has(ends.largest)];
-    let is_other = matches!(said, Ok(Said::Read(_, true)));
-    let (answer, ends) = match said {
-        Err(why) => ([why.into(), 0, 0, 0], given),
-        Ok(Said::Read(n, _)) => ([0, 0, 0, n], given),
-        Ok(Said::Sent(n, k, value)) => ([0, value.into(), k as u64, n], after),
-        Ok(Said::Kept | Said::Set) => ([0, 0, 0, 0], after),
-    };
-    *out += &record(&[&answer[..], &ends].concat(), &[]);
-    *out += &mark_if(is_other, CEILING);
-    Ok(())
+    let said = call(&mut ends);
+    if matches!(said, Ok(Said::Sent(..) | Said::Kept)) {
+        let has = |n: Option<u64>| u64::from(n.is_some());
+        let (acked, largest) = (ends.acked.unwrap_or(0), ends.largest.unwrap_or(0));
+        *given = [ends.next, acked, largest, has(ends.acked), has(ends.largest)];
+    }
+    said
 }
 
 /// A payload that no memory holds is no payload to ask the Rust for.

@@ -1,4 +1,5 @@
 use Rattle.number.specs.Said.{keptOf}
+use Rattle.spaces.specs.Calls.{within}
 use borrow.Author.Needs.{needs}
 use Rattle.gateway.proofs.numbers.kept.Statement.{statement}
 use Rattle.gateway.proofs.numbers.kept.Tie as tie
@@ -8,6 +9,9 @@ enum-known-x c = search needs
 
 ends-of-requires : tie.Need-ends-of-requires
 ends-of-requires c κs = search needs
+
+put-requires : tie.Need-put-requires
+put-requires c κs = search needs
 
 answer-requires : tie.Need-answer-requires
 answer-requires c κs = search needs
@@ -22,11 +26,11 @@ answer-requires-2 : tie.Need-answer-requires-2
 answer-requires-2 c κs = search needs
 
 returns : tie.Need-returns
-unfolding keptOf
-returns c = rw (c .before .before .before .x .given .1, c .answer .ensures, c .before .ends-of .ensures)
+unfolding keptOf within
+returns c = rw (c .before .before .before .before .x .given .1, c .answer .ensures, c .before .put .ensures, c .before .before .ends-of .ensures)
 
 returns-2 : tie.Need-returns-2
-unfolding keptOf
+unfolding keptOf within
 returns-2 c = rw (c .before .before .before .x2 .given .1, c .answer2 .ensures, c .before .number .ensures)
 
 pub kept-spec : {M : Type 1} → statement M
@@ -35,6 +39,7 @@ kept-spec =
     (tie.spec
     enum-known-x
     ends-of-requires
+    put-requires
     answer-requires
     enum-known-x-2
     number-requires

@@ -1,7 +1,13 @@
+use mathlib.Core.Path.{sym}
 use Rattle.number.specs.Said.{fullOf}
+use Rattle.spaces.specs.Calls.{within, lifted}
+use Rattle.gateway.proofs.InOne.{read-done}
 use borrow.Author.Needs.{needs}
 use Rattle.gateway.proofs.numbers.read.Statement.{statement}
 use Rattle.gateway.proofs.numbers.read.Tie as tie
+
+get-requires : tie.Need-get-requires
+get-requires c κs = search needs
 
 space-of-requires : tie.Need-space-of-requires
 space-of-requires c κs = search needs
@@ -26,16 +32,19 @@ answer-requires-2 c κs = search needs
 
 returns : tie.Need-returns
 unfolding fullOf
-returns c = rw (c .answer .ensures, ← c .before .before .before .before .before .space-of .ensures, ← c .before .before .before .before .read .ensures, c .before .before .n .given .1)
+returns c =
+    rw (c .answer .ensures)
+    (sym (read-done _ _ _ (rw (← c .before .before .before .before .before .before .get .ensures, ← c .before .before .before .before .before .space-of .ensures, ← c .before .before .before .before .read .ensures, c .before .before .n .given .1))))
 
 returns-2 : tie.Need-returns-2
-unfolding fullOf
-returns-2 c = rw (c .answer2 .ensures, c .before .number .ensures, ← c .before .before .before .before .before .before .space-of .ensures, ← c .before .before .before .before .before .read .ensures, c .before .before .before .why .given .1)
+unfolding fullOf within lifted
+returns-2 c = rw (c .answer2 .ensures, c .before .number .ensures, ← c .before .before .before .before .before .before .before .get .ensures, ← c .before .before .before .before .before .before .space-of .ensures, ← c .before .before .before .before .before .read .ensures, c .before .before .before .why .given .1)
 
 pub read-spec : {M : Type 1} → statement M
 read-spec =
     tie.close
     (tie.spec
+    get-requires
     space-of-requires
     read-requires
     enum-known-n

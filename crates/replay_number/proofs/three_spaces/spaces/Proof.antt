@@ -3,14 +3,14 @@ use Prim.Native.Nat.{_≤_, _-_}
 use mathlib.Core.Path.{_≡_}
 use lib.ListN.{length}
 use borrow.Author.Needs.{needs}
-use Rattle.replay_number.proofs.numbers.ends.Statement.{statement}
-use Rattle.replay_number.proofs.numbers.ends.Tie as tie
+use Rattle.replay_number.proofs.three_spaces.spaces.Statement.{statement}
+use Rattle.replay_number.proofs.three_spaces.spaces.Tie as tie
 
 abbrev Inv-loop : tie.InvT-loop
-Inv-loop steps out₀ p s₀ q₀ i₀ out s q i = (i ≤ length steps) × (length out ≡ length out₀)
+Inv-loop steps out₀ p x₀ q₀ i₀ out x q i = (i ≤ length steps) × (length out ≡ length out₀)
 
 abbrev μ-loop : tie.MeasureT-loop
-μ-loop steps out₀ p s₀ q₀ i₀ out s q i = length steps - i
+μ-loop steps out₀ p x₀ q₀ i₀ out x q i = length steps - i
 
 fresh-requires : tie.Need-fresh-requires Inv-loop μ-loop
 fresh-requires c κs = search needs
@@ -21,14 +21,11 @@ loop-holds c = search needs
 read-step-requires : tie.Need-read-step-requires Inv-loop μ-loop
 read-step-requires c κs = search needs
 
-put-said-requires : tie.Need-put-said-requires Inv-loop μ-loop
-put-said-requires c κs = search needs
+put-step-requires : tie.Need-put-step-requires Inv-loop μ-loop
+put-step-requires c κs = search needs
 
 after-requires : tie.Need-after-requires Inv-loop μ-loop
 after-requires c κs = search needs
-
-and-space-requires : tie.Need-and-space-requires Inv-loop μ-loop
-and-space-requires c κs = search needs
 
 sub-if1 : tie.Need-sub-if1 Inv-loop μ-loop
 sub-if1 c = search needs
@@ -40,7 +37,7 @@ returns : tie.Need-returns Inv-loop μ-loop
 returns c = search needs
 
 add-i : tie.Need-add-i Inv-loop μ-loop
-add-i c = search needs
+add-i c = search (needs, c .if1 .left, c .before .before .before .before .before .before .before .before .loop .inv, c .before .before .before .before .before .before .before .before .before .before .before .before .good)
 
 loop-less : tie.Need-loop-less Inv-loop μ-loop
 loop-less c = search needs
@@ -54,8 +51,8 @@ same-length-2 c = search needs
 returns-2 : tie.Need-returns-2 Inv-loop μ-loop
 returns-2 c = search needs
 
-pub ends-spec : {M : Type 1} → statement M
-ends-spec =
+pub spaces-spec : {M : Type 1} → statement M
+spaces-spec =
     tie.close
     (tie.spec
     Inv-loop
@@ -63,9 +60,8 @@ ends-spec =
     fresh-requires
     loop-holds
     read-step-requires
-    put-said-requires
+    put-step-requires
     after-requires
-    and-space-requires
     sub-if1
     same-length
     returns
