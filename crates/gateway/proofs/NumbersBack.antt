@@ -2,7 +2,7 @@
 -- Of the spaces that it does not name, nothing is looked at, and they come back as they came.
 use Prim.Native.Nat.{ℕ}
 use mathlib.Core.Path.{_≡_, refl, ap, _∙_}
-use mathlib.Core.Bool.{false}
+use mathlib.Core.Bool.{Bool, true, false}
 use mathlib.Core.Option.{Option, none, some}
 use borrow.Author.Tests.{ne-eqb}
 use Rattle.coding.specs.Words.{if_then_else_, Answer, no, ok}
@@ -15,10 +15,10 @@ use Rattle.packet.specs.declared.header.SpaceId.the-variants as id
 use Rattle.spaces.specs.Each.{Each, of, put, spaceFor}
 use Rattle.spaces.specs.Calls.{Told, lifted, sendCall, acknowledgeCall, readCall, acceptCall}
 use Rattle.spaces.proofs.Lifts.{lifts-no, lifts}
-use Rattle.spaces.proofs.Order.{refused-stays, others-stay, looks-at-one, Both, either-order}
+use Rattle.spaces.proofs.Order.{refused-stays, others-stay, looks-at-one, same-stays, Both, either-order}
 use Rattle.gateway.specs.Arguments.{kindAt}
 use Rattle.gateway.specs.Numbers.{soFar, hasOf, endsIn, endsOut, unkept, Numbers, numbers, inNumbers, eachIn, eachOut, refusalIn, numbersIn, answerWith, recordOf, oneStep}
-use Rattle.gateway.specs.GivesBack.{spacesIn, callBack, packetBack, StepIsCall, RefusedIsSame, Step, stepOn, names, OthersAsCame, OthersUnread, EitherOrder}
+use Rattle.gateway.specs.GivesBack.{spacesIn, callBack, packetBack, StepIsCall, RefusedIsSame, ReadIsSame, Step, stepOn, names, OthersAsCame, OthersUnread, EitherOrder}
 use Rattle.gateway.specs.declared.records.NumberEnds.{NumberEnds}
 use Rattle.gateway.specs.declared.records.NumberSpaces.{NumberSpaces}
 use Rattle.gateway.specs.declared.records.NumberAnswer.{NumberAnswer}
@@ -115,6 +115,18 @@ refused-same p x h = go (lifted (one p) (names p) (eachIn x) .says) refl
     go : (b : Answer Numbers) → lifted (one p) (names p) (eachIn x) .says ≡ b → stepOn p x .spaces ≡ x
     go (no k) r = ap eachOut (refused-stays (one p) (names p) (eachIn x) r)
     go (ok a) r = absurd (h (ap refusalIn r))
+
+read-leaves : (n len value : ℕ) (e : NumberEnds) → oneStep 2 n len value e .leaves ≡ e
+unfolding if_then_else_
+read-leaves n len value e = go (unkept e) refl
+  where
+    go : (b : Bool) → unkept e ≡ b → oneStep 2 n len value e .leaves ≡ e
+    go true u = rw u
+    go false u = rw u
+
+pub read-same : ReadIsSame
+read-same p x two =
+    rw two (ap eachOut (same-stays (oneStep 2 (p .number) (p .len) (p .value)) (read-leaves (p .number) (p .len) (p .value)) (names p) (eachIn x)))
 
 pub others-as-came : OthersAsCame
 others-as-came p x = others-stay (one p) (names p) (eachIn x)

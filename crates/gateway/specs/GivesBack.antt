@@ -211,6 +211,10 @@ endsAt s r = of (eachIn (r .spaces)) s
 abbrev pub RefusedIsSame : Type 0
 RefusedIsSame = (p : Step) (x : NumberSpaces) → (stepOn p x .refusal ≡ 0 → ⊥) → stepOn p x .spaces ≡ x
 
+-- and so does a reading, refused or not
+abbrev pub ReadIsSame : Type 0
+ReadIsSame = (p : Step) (x : NumberSpaces) → p .step ≡ 2 → stepOn p x .spaces ≡ x
+
 -- a space that is not named comes back as it came, field by field
 abbrev pub OthersAsCame : Type 0
 OthersAsCame = (p : Step) (x : NumberSpaces) (t : SpaceId) → (names p ≡ some t → ⊥) → endsAt t (stepOn p x) ≡ of (eachIn x) t

@@ -4,7 +4,6 @@ use Prim.Native.Nat.{ℕ}
 use mathlib.Core.Path.{_≡_, refl, sym, ap, _∙_}
 use mathlib.Core.Option.{Option, none, some}
 use Rattle.coding.specs.Words.{Answer, no, ok}
-use Rattle.number.specs.Ends.{readBy}
 use Rattle.packet.specs.Header.{Header, initial, zeroRtt, handshake, retry, short, negotiate, spaceIn}
 use Rattle.packet.specs.Said.{spaceOf}
 use Rattle.packet.specs.declared.header.SpaceId.{SpaceId}
@@ -47,18 +46,19 @@ module _ {E A : Type 0} (f : E → Told E A) where
       go (ok a) r =
           rw (lifts f x s r, lifts f y s (sym (ap (λ (u : E). f u .says) e) ∙ r), put-same x s (f (of x s) .leaves), put-same y s (f (of y s) .leaves), e)
 
--- a reading leaves the record as it was, refused or not
-pub read-stays : (x : Spaces) (k : Kind) (c : CutNumber) → readIn x k c .leaves ≡ x
-unfolding lifted
-read-stays x k c = go (spaceFor k)
-  where
-    in-space : (s : SpaceId) (b : Answer ℕ) → readBy (of x s) c ≡ b → lifted (readCall c) (some s) x .leaves ≡ x
-    in-space s (no j) r = rw (lifts-no (readCall c) x s r)
-    in-space s (ok a) r = rw (lifts (readCall c) x s r) (put-back x s)
+  -- a call that leaves its space as it was leaves the record, refused or not
+  pub same-stays : ((e : E) → f e .leaves ≡ e) → (o : Option SpaceId) (x : Each E) → lifted f o x .leaves ≡ x
+  unfolding lifted
+  same-stays h none x = refl
+  same-stays h (some s) x = go (f (of x s) .says) refl
+    where
+      go : (b : Answer A) → f (of x s) .says ≡ b → lifted f (some s) x .leaves ≡ x
+      go (no j) r = rw (lifts-no f x s r)
+      go (ok a) r = rw (lifts f x s r, h (of x s)) (put-back x s)
 
-    go : (o : Option SpaceId) → lifted (readCall c) o x .leaves ≡ x
-    go none = refl
-    go (some s) = in-space s _ refl
+-- a reading is such a call
+pub read-stays : (x : Spaces) (k : Kind) (c : CutNumber) → readIn x k c .leaves ≡ x
+read-stays x k c = same-stays (readCall c) (λ e. refl) (spaceFor k) x
 
 -- ---- two calls: "calls in different spaces give the same state in either order"
 
