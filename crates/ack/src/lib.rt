@@ -1,5 +1,7 @@
 // ACK blocks (frame.rs, scan_ack_blocks and AckIter's step; RFC 9000, section 19.3.1). The scan ends by its bytes, whatever
 // count is declared: each round reads two integers, and the first that is cut ends it.
+#![tactic(auto)]
+
 ghost use Rattle.std.specs.Prelude.{◌≡◌, ℕ, suc};
 ghost use Rattle.coding.specs.Refusals.{number_of};
 ghost use Rattle.ack.specs.Scan.{rounds, scanned};
@@ -10,21 +12,21 @@ use coding::{MAX_DATAGRAM, NUMBER_END, Refusal, VarRead};
 use shared::FullNumber;
 
 // The place past the blocks, or a refusal.
-#[derive(Drop)]
+#[derive(Clone, Copy)]
 pub enum Scanned {
     To(usize),
     Refused(Refusal),
 }
 
 // A round's smallest number and the place past it, or a refusal.
-#[derive(Drop)]
+#[derive(Clone, Copy)]
 enum Round {
     To(u64, usize),
     Refused(Refusal),
 }
 
 // A range of numbers, its smallest and its largest; no byte left; or a refusal.
-#[derive(Drop)]
+#[derive(Clone, Copy)]
 pub enum AckStep {
     Range(FullNumber, FullNumber),
     End,
@@ -32,7 +34,7 @@ pub enum AckStep {
 }
 
 // A step's answer, and where the reader then stands: the largest number of the range to come, and its place.
-#[derive(Drop)]
+#[derive(Clone, Copy)]
 pub struct AckTaken {
     pub answer: AckStep,
     pub largest: FullNumber,

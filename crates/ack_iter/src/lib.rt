@@ -1,6 +1,8 @@
 // The reader of an ACK frame's ranges (frame.rs, AckIter): it holds the largest number of the range to come and the bytes of the
 // blocks. Its two functions, and `nth_range`, which steps a reader for callers with plain values, are proved by hand; the work is
 // in `step` and `rest_of`, which need none.
+#![tactic(auto)]
+
 ghost use Rattle.std.specs.Prelude.{◌≡◌};
 ghost use Rattle.ack.specs.Said.{range_step_of, taken_of};
 ghost use Rattle.ack.specs.Step.{ack_step};
@@ -9,7 +11,7 @@ ghost use Rattle.ack_iter.specs.Iter.{taken, Rest, step_after};
 use ack::{AckStep, AckTaken};
 use shared::FullNumber;
 
-#[derive(Drop)]
+#[derive(Clone, Copy)]
 pub struct AckIter<'a> {
     largest: FullNumber,
     data: &'a [u8],

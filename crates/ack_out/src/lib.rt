@@ -1,5 +1,7 @@
 // The ACK encoder (frame.rs, Ack::encode; RFC 9000, section 19.3). The ranges are a flat list of starts and ends, ascending, each
 // end past its range's largest number.
+#![tactic(auto)]
+
 ghost use Rattle.std.specs.Prelude.{◌≡◌, true, [], ◌+◌, ◌-◌, ◌*◌, ◌≤◌, ◌<◌, length, get_or};
 ghost use Rattle.coding.specs.Words.{max_datagram, number_end};
 ghost use Rattle.coding.specs.Varint.{var_size};

@@ -67,7 +67,7 @@ pub fn and_part(out: &mut [u8], at: usize, s: &[u8], place: Place) -> usize
 
 // What an operation answers: that there is no such operation, none, a refusal, or ok with up to three numbers; or a number
 // alone.
-#[derive(Drop)]
+#[derive(Clone, Copy)]
 pub enum Answer {
     Bad,
     Nothing,

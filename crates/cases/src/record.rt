@@ -9,7 +9,7 @@ ghost use Rattle.cases.specs.Said.{turn_of};
 use coding::{Place, PlaceRead, U8Read, U16Read, U32Read, U64Read, part, put_slice};
 
 // A record's operation and how many bytes its fields are; or that there is none, or a part of one.
-#[derive(Drop)]
+#[derive(Clone, Copy)]
 pub enum Turn {
     Record(u8, usize),
     End,
@@ -17,7 +17,7 @@ pub enum Turn {
 }
 
 // The six numbers of a record.
-#[derive(Drop)]
+#[derive(Clone, Copy)]
 pub struct Numbers {
     pub n0: u64,
     pub n1: u64,

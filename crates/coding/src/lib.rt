@@ -1,5 +1,7 @@
 // Reading at a slice and a cursor, and writing into a lent buffer (coding.rs). All of it is total: a cursor or a place
 // past the slice reads as a cut field, and a put that does not fit changes nothing.
+#![tactic(auto)]
+
 mod refusal; // refusal.rt: what a call may say no with
 mod varint; // varint.rt: variable-length integers
 
@@ -24,51 +26,51 @@ pub const NUMBER_END: u64 = 0x4000_0000_0000_0000;
 pub const MAX_NUMBER: u64 = NUMBER_END - 1;
 
 // What a read finds: the value and the place past it, or the end of the input.
-#[derive(Drop)]
+#[derive(Clone, Copy)]
 pub enum U8Read {
     Num(u8, usize),
     End,
 }
 
-#[derive(Drop)]
+#[derive(Clone, Copy)]
 pub enum U16Read {
     Num(u16, usize),
     End,
 }
 
-#[derive(Drop)]
+#[derive(Clone, Copy)]
 pub enum U32Read {
     Num(u32, usize),
     End,
 }
 
-#[derive(Drop)]
+#[derive(Clone, Copy)]
 pub enum U64Read {
     Num(u64, usize),
     End,
 }
 
-#[derive(Drop)]
+#[derive(Clone, Copy)]
 pub enum VarRead {
     Var(VarInt, usize),
     End,
 }
 
 // A part of a lent slice: len bytes from start on.
-#[derive(Drop)]
+#[derive(Clone, Copy)]
 pub struct Place {
     pub start: usize,
     pub len: usize,
 }
 
-#[derive(Drop)]
+#[derive(Clone, Copy)]
 pub enum PlaceRead {
     At(Place, usize),
     End,
 }
 
 // The length of what was written, or a refusal.
-#[derive(Drop)]
+#[derive(Clone, Copy)]
 pub enum Wrote {
     Len(usize),
     Refused(Refusal),

@@ -7,18 +7,18 @@ ghost use Rattle.coding.specs.Said.{made_of, sized_of, wrote_of};
 use crate::{MAX_NUMBER, NUMBER_END, Refusal, Wrote};
 
 // An integer less than 2^62.
-#[derive(Drop)]
+#[derive(Clone, Copy)]
 pub struct VarInt(pub u64);
 
 // An integer, or a refusal.
-#[derive(Drop)]
+#[derive(Clone, Copy)]
 pub enum VarMade {
     Var(VarInt),
     Refused(Refusal),
 }
 
 // A written size, or a refusal.
-#[derive(Drop)]
+#[derive(Clone, Copy)]
 pub enum Sized {
     Bytes(usize),
     Refused(Refusal),

@@ -1,4 +1,6 @@
 // Prints the packets of one datagram, read on standard input (document 01, "The dump program").
+#![tactic(auto)]
+
 use coding::{Place, Wrote};
 use libc::{STDIN_FILENO, STDOUT_FILENO};
 

@@ -1,4 +1,6 @@
 // The dump's text, made in a lent buffer (document 01, "The dump program").
+#![tactic(auto)]
+
 ghost use Rattle.std.specs.Prelude.{◌≡◌, ◌+◌, ◌≤◌, length, ltb};
 ghost use Rattle.coding.specs.Words.{ok};
 ghost use Rattle.coding.specs.Said.{wrote_of};
@@ -14,7 +16,7 @@ use packet::{Decoded, Found, ProtectedHeader};
 const MAX_LINE: usize = 80;
 
 // The place in the datagram where the next step is, where there is one, and the place past the text so far.
-#[derive(Drop)]
+#[derive(Clone, Copy)]
 enum Turn {
     More(usize, usize),
     Done(usize),

@@ -1,5 +1,7 @@
 // ECN counts, each raised by one where it stands (frame.rs, EcnCounts and its add_assign). A function that lends the counts is
 // proved by hand; `raised` does it for callers with plain values, which need no such proof.
+#![tactic(auto)]
+
 ghost use Rattle.std.specs.Prelude.{◌≡◌};
 ghost use Rattle.shared.specs.Said.{ecn_of};
 ghost use Rattle.ecn.specs.Counts.{zero_counts, counts_after, said_after};
@@ -8,7 +10,7 @@ ghost use Rattle.ecn.specs.Said.{more_of, raise_of};
 use coding::{MAX_NUMBER, Refusal};
 use shared::EcnCodepoint;
 
-#[derive(Drop)]
+#[derive(Clone, Copy)]
 pub struct EcnCounts {
     pub ect0: u64,
     pub ect1: u64,
@@ -16,14 +18,14 @@ pub struct EcnCounts {
 }
 
 // Whether a count was raised.
-#[derive(Drop)]
+#[derive(Clone, Copy)]
 pub enum Raise {
     Done,
     Refused(Refusal),
 }
 
 // A count, and whether it was raised.
-#[derive(Drop)]
+#[derive(Clone, Copy)]
 struct Counted {
     count: u64,
     answer: Raise,
@@ -85,7 +87,7 @@ impl EcnCounts {
 }
 
 // The counts afterwards, and whether one was raised.
-#[derive(Drop)]
+#[derive(Clone, Copy)]
 pub struct After {
     pub counts: EcnCounts,
     pub answer: Raise,

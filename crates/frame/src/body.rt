@@ -17,7 +17,7 @@ use ecn::EcnCounts;
 use shared::{Dir, FrameType, FullNumber, StreamId, types};
 
 // The frame and the place past it, or why it is refused.
-#[derive(Drop)]
+#[derive(Clone, Copy)]
 pub(crate) enum Body {
     Done(Frame, usize),
     Refused(Refusal),

@@ -9,7 +9,7 @@ use coding::{Place, PlaceRead, Refusal, U8Read, VarInt, VarRead};
 use shared::{FullNumber, MAX_CID_SIZE};
 
 // A part of the payload and the place past it, or why there is none.
-#[derive(Drop)]
+#[derive(Clone, Copy)]
 pub(crate) enum Field {
     At(Place, usize),
     Refused(Refusal),

@@ -9,20 +9,20 @@ use ecn::EcnCounts;
 use shared::{Dir, FrameType, FullNumber, StreamId, types};
 
 // A frame's type, where there is one.
-#[derive(Drop)]
+#[derive(Clone, Copy)]
 pub enum TypeRead {
     Type(FrameType),
     Nothing,
 }
 
 // The ECN counts of an ACK, where it has them.
-#[derive(Drop)]
+#[derive(Clone, Copy)]
 pub enum AckEcn {
     Counts(EcnCounts),
     Nothing,
 }
 
-#[derive(Drop)]
+#[derive(Clone, Copy)]
 pub struct Ack {
     pub largest: FullNumber,
     pub delay: u64,
@@ -30,31 +30,31 @@ pub struct Ack {
     pub ecn: AckEcn,
 }
 
-#[derive(Drop)]
+#[derive(Clone, Copy)]
 pub struct ResetStream {
     pub id: StreamId,
     pub error_code: u64,
     pub final_offset: u64,
 }
 
-#[derive(Drop)]
+#[derive(Clone, Copy)]
 pub struct StopSending {
     pub id: StreamId,
     pub error_code: u64,
 }
 
-#[derive(Drop)]
+#[derive(Clone, Copy)]
 pub struct Crypto {
     pub offset: u64,
     pub data: Place,
 }
 
-#[derive(Drop)]
+#[derive(Clone, Copy)]
 pub struct NewToken {
     pub token: Place,
 }
 
-#[derive(Drop)]
+#[derive(Clone, Copy)]
 pub struct Stream {
     pub id: StreamId,
     pub offset: u64,
@@ -64,7 +64,7 @@ pub struct Stream {
     pub data: Place,
 }
 
-#[derive(Drop)]
+#[derive(Clone, Copy)]
 pub struct NewConnectionId {
     pub sequence: u64,
     pub retire_prior_to: u64,
@@ -73,7 +73,7 @@ pub struct NewConnectionId {
 }
 
 // Reason given by the transport for closing the connection.
-#[derive(Drop)]
+#[derive(Clone, Copy)]
 pub struct ConnectionClose {
     pub error_code: u64,
     pub frame_type: TypeRead,
@@ -81,26 +81,26 @@ pub struct ConnectionClose {
 }
 
 // Reason given by an application for closing the connection.
-#[derive(Drop)]
+#[derive(Clone, Copy)]
 pub struct ApplicationClose {
     pub error_code: u64,
     pub reason: Place,
 }
 
-#[derive(Drop)]
+#[derive(Clone, Copy)]
 pub enum Close {
     Connection(ConnectionClose),
     Application(ApplicationClose),
 }
 
-#[derive(Drop)]
+#[derive(Clone, Copy)]
 pub struct Datagram {
     // whether a length stood before the data
     pub len: bool,
     pub data: Place,
 }
 
-#[derive(Drop)]
+#[derive(Clone, Copy)]
 pub struct AckFrequency {
     pub sequence: u64,
     pub ack_eliciting_threshold: u64,
@@ -108,7 +108,7 @@ pub struct AckFrequency {
     pub reordering_threshold: u64,
 }
 
-#[derive(Drop)]
+#[derive(Clone, Copy)]
 pub enum Frame {
     Padding,
     Ping,

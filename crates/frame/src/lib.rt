@@ -1,5 +1,7 @@
 // Frames: one is read at a place of the payload (frame.rs, reading; RFC 9000, sections 12.4 and 19). Data, reason, token, CID,
 // reset token and ACK blocks are places in that payload: `coding::part(payload, place)` hands back each as a part of it.
+#![tactic(auto)]
+
 mod body; // body.rt: each kind's fields, and the decision over the type's number
 mod field; // field.rt: the fields that are more than an integer
 mod kinds; // kinds.rt: what a frame is
@@ -19,7 +21,7 @@ pub use kinds::{
 use shared::FrameType;
 
 // A frame, its type as it was read, and the place past it; or a refusal, with the frame's start and its type once read.
-#[derive(Drop)]
+#[derive(Clone, Copy)]
 pub enum FrameRead {
     Got {
         frame: Frame,
@@ -34,14 +36,14 @@ pub enum FrameRead {
 }
 
 // A frame as it was read, or that the payload has ended.
-#[derive(Drop)]
+#[derive(Clone, Copy)]
 pub enum FrameStep {
     Read(FrameRead),
     End,
 }
 
 // A step, and how many bytes it took: the frame's encoded size with its type.
-#[derive(Drop)]
+#[derive(Clone, Copy)]
 pub struct SizedStep {
     pub step: FrameStep,
     pub size: usize,

@@ -17,7 +17,7 @@ pub const CONNECTION_CLOSE_SIZE_BOUND: usize = 1 + 8 + 8 + 8;
 pub const APPLICATION_CLOSE_SIZE_BOUND: usize = 1 + 8 + 8;
 
 // A close without its reason. The transport's error code may be any integer.
-#[derive(Drop)]
+#[derive(Clone, Copy)]
 pub enum CloseKind {
     Connection {
         error_code: u64,

@@ -10,14 +10,14 @@ use coding::{VarInt, VarRead, Wrote};
 use shared::{FrameType, StreamId};
 
 // A frame's type and the place past it, or the end of the input.
-#[derive(Drop)]
+#[derive(Clone, Copy)]
 pub enum FrameTypeRead {
     Type(FrameType, usize),
     End,
 }
 
 // A stream id and the place past it, or the end of the input.
-#[derive(Drop)]
+#[derive(Clone, Copy)]
 pub enum StreamIdRead {
     Id(StreamId, usize),
     End,

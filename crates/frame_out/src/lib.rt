@@ -1,5 +1,7 @@
 // Frames out: the encoders but ACK's, each into a lent buffer from byte 0 on (frame.rs; RFC 9000, section 19). Data, reason and
 // token are slices; a buffer too short or an argument outside its rule leaves every byte as it was.
+#![tactic(auto)]
+
 mod closes; // closes.rt: the closes
 mod codec; // codec.rt: a frame's type, a stream id, an error code by themselves
 
@@ -29,7 +31,7 @@ use shared::{ConnectionId, FrameType, MAX_CID_SIZE, StreamId, types};
 pub const STREAM_SIZE_BOUND: usize = 1 + 8 + 8 + 8;
 
 // A stream frame without its data, which lies from `start` to `end`.
-#[derive(Drop)]
+#[derive(Clone, Copy)]
 pub struct StreamMeta {
     pub id: StreamId,
     pub start: u64,

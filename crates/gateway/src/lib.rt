@@ -1,6 +1,8 @@
 // The surface that the gateway's host links: seven functions on numbers and byte slices, each over a proved crate. Every
 // argument is checked; an answer is a record by value, its refusal first; a refusal changes no lent byte.
 // include/guobbarel.h says the same to a C compiler, and what a caller owes.
+#![tactic(auto)]
+
 mod headers; // headers.rt: a header with its Length
 mod numbers; // numbers.rt: the number ends, in and out
 mod packets; // packets.rt: what a header and what finish say, as records

@@ -14,7 +14,7 @@ use protect::{Finished, Kind, NumberLen, SamplePlace};
 use shared::CutNumber;
 
 // What a header alone has.
-#[derive(Drop)]
+#[derive(Clone, Copy)]
 pub(crate) struct HeaderNumbers {
     refusal: u8,
     kind: u8,

@@ -5,7 +5,7 @@ use gateway_frame::Span;
 
 // A packet of a datagram. All but `packet`, which lies in the datagram, is counted from the packet's first byte.
 #[repr(C)]
-#[derive(Drop)]
+#[derive(Clone, Copy)]
 pub struct SplitAnswer {
     pub refusal: u8,
     pub kind: u8,
@@ -22,7 +22,7 @@ pub struct SplitAnswer {
 
 // The sample of a packet; one of no bytes where there is none.
 #[repr(C)]
-#[derive(Drop)]
+#[derive(Clone, Copy)]
 pub struct SampleAnswer {
     pub refusal: u8,
     pub sample: Span,
@@ -30,7 +30,7 @@ pub struct SampleAnswer {
 
 // A packet without its header protection.
 #[repr(C)]
-#[derive(Drop)]
+#[derive(Clone, Copy)]
 pub struct UnmaskAnswer {
     pub refusal: u8,
     pub reserved_clear: u8,
@@ -43,7 +43,7 @@ pub struct UnmaskAnswer {
 
 // The two number ends of a space. A largest number counts only beside a 1.
 #[repr(C)]
-#[derive(Drop)]
+#[derive(Clone, Copy)]
 pub struct NumberEnds {
     pub next: u64,
     pub acked: u64,
@@ -54,7 +54,7 @@ pub struct NumberEnds {
 
 // The number ends of the three spaces.
 #[repr(C)]
-#[derive(Drop)]
+#[derive(Clone, Copy)]
 pub struct NumberSpaces {
     pub initial: NumberEnds,
     pub handshake: NumberEnds,
@@ -63,7 +63,7 @@ pub struct NumberSpaces {
 
 // The record after a step, and what the step says.
 #[repr(C)]
-#[derive(Drop)]
+#[derive(Clone, Copy)]
 pub struct NumberAnswer {
     pub refusal: u8,
     pub number_value: u32,
@@ -74,7 +74,7 @@ pub struct NumberAnswer {
 
 // The header to write, without its connection ids and its token.
 #[repr(C)]
-#[derive(Drop)]
+#[derive(Clone, Copy)]
 pub struct HeaderGiven {
     pub kind: u8,
     pub spin: u8,
@@ -87,7 +87,7 @@ pub struct HeaderGiven {
 
 // What a header was written with.
 #[repr(C)]
-#[derive(Drop)]
+#[derive(Clone, Copy)]
 pub struct HeaderAnswer {
     pub refusal: u8,
     pub has_length: u8,

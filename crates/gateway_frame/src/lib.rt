@@ -1,4 +1,6 @@
 // What a frame says, as a record laid out for C: the frame that `frame::step` reads, by its row in the table of frames.
+#![tactic(auto)]
+
 mod records; // records.rt: the records
 mod rows; // rows.rt: a frame's name and values
 

@@ -2,7 +2,7 @@
 
 // A part of the slice that the call was given: len bytes from start on.
 #[repr(C)]
-#[derive(Drop)]
+#[derive(Clone, Copy)]
 pub struct Span {
     pub start: usize,
     pub len: usize,
@@ -10,7 +10,7 @@ pub struct Span {
 
 // What a frame says at an index: a number, a place in the payload, or nothing.
 #[repr(C)]
-#[derive(Drop)]
+#[derive(Clone, Copy)]
 pub struct FrameValue {
     pub kind: u8,
     pub number: u64,
@@ -19,7 +19,7 @@ pub struct FrameValue {
 
 // A frame of a payload. Its refusal comes first: 0 for none, else document 01's number.
 #[repr(C)]
-#[derive(Drop)]
+#[derive(Clone, Copy)]
 pub struct FrameAnswer {
     pub refusal: u8,
     pub found: u8,

@@ -16,7 +16,7 @@ const STREAM: u64 = 0x08;
 const DATAGRAM: u64 = 0x30;
 
 // A frame's name and its values; nothing past the last.
-#[derive(Drop)]
+#[derive(Clone, Copy)]
 pub(crate) struct FrameRow {
     pub(crate) name: u64,
     pub(crate) value0: FrameValue,

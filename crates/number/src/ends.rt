@@ -10,13 +10,13 @@ use coding::{MAX_NUMBER, NUMBER_END, Refusal};
 use shared::{CutNumber, FullNumber};
 
 // The largest number so far, where there is one.
-#[derive(Drop)]
+#[derive(Clone, Copy)]
 pub enum Largest {
     Nothing,
     At(FullNumber),
 }
 
-#[derive(Drop)]
+#[derive(Clone, Copy)]
 pub struct Space {
     // the number that is sent next
     pub next: FullNumber,
@@ -27,7 +27,7 @@ pub struct Space {
 }
 
 // What was sent and the record past it, or a refusal and the record as it was.
-#[derive(Drop)]
+#[derive(Clone, Copy)]
 pub enum SendAnswer {
     Sent {
         number: FullNumber,
@@ -41,7 +41,7 @@ pub enum SendAnswer {
 }
 
 // The record afterwards, or a refusal and the record as it was.
-#[derive(Drop)]
+#[derive(Clone, Copy)]
 pub enum SpaceAnswer {
     Done(Space),
     Refused { why: Refusal, space: Space },

@@ -1,5 +1,7 @@
 // Packet numbers, cut and read back (packet.rs, PacketNumber; RFC 9000, 17.1 and A.3). A cut number outside its kind's
 // rule is refused 14 by whatever can refuse.
+#![tactic(auto)]
+
 mod ends; // ends.rt: the two number ends of a space
 
 ghost use Rattle.std.specs.Prelude.{◌≡◌, ◌^◌, ◌≤◌, ◌<◌};
@@ -16,21 +18,21 @@ pub use ends::{Largest, SendAnswer, Space, SpaceAnswer};
 use shared::{CutNumber, FullNumber};
 
 // A cut number, or a refusal.
-#[derive(Drop)]
+#[derive(Clone, Copy)]
 pub enum CutMade {
     Cut(CutNumber),
     Refused(Refusal),
 }
 
 // The two low bits of byte 0, or a refusal.
-#[derive(Drop)]
+#[derive(Clone, Copy)]
 pub enum Tagged {
     Tag(u8),
     Refused(Refusal),
 }
 
 // A full number, or a refusal.
-#[derive(Drop)]
+#[derive(Clone, Copy)]
 pub enum FullRead {
     Number(FullNumber),
     Refused(Refusal),

@@ -11,14 +11,14 @@ use shared::ConnectionId;
 const VERSION_2: u32 = 0x6b3343cf;
 
 // Long packet types with uniform header structure.
-#[derive(Drop)]
+#[derive(Clone, Copy)]
 pub enum LongType {
     Handshake,
     ZeroRtt,
 }
 
 // Long packet type including non-uniform cases.
-#[derive(Drop)]
+#[derive(Clone, Copy)]
 pub enum LongHeaderType {
     Initial,
     Retry,
@@ -26,7 +26,7 @@ pub enum LongHeaderType {
 }
 
 // A packet's header without its connection ids, or a refusal.
-#[derive(Drop)]
+#[derive(Clone, Copy)]
 pub enum ProtectedHeader {
     Initial { token: Place, len: u64 },
     Long { ty: LongType, len: u64 },
@@ -38,7 +38,7 @@ pub enum ProtectedHeader {
 
 // A header that was read. The number offset is the place past the header: the packet number's, where there is one.
 // A refusal has empty connection ids and zeros, but that of a version, which has both connection ids and the version.
-#[derive(Drop)]
+#[derive(Clone, Copy)]
 pub struct Decoded {
     pub header: ProtectedHeader,
     pub dst_cid: ConnectionId,
@@ -48,7 +48,7 @@ pub struct Decoded {
 }
 
 // The packet number spaces.
-#[derive(Drop)]
+#[derive(Clone, Copy)]
 pub enum SpaceId {
     Initial,
     Handshake,
@@ -56,14 +56,14 @@ pub enum SpaceId {
 }
 
 // A packet's space, where it has a number.
-#[derive(Drop)]
+#[derive(Clone, Copy)]
 pub enum Space {
     In(SpaceId),
     Nothing,
 }
 
 // A packet's Length, where it has one.
-#[derive(Drop)]
+#[derive(Clone, Copy)]
 pub enum PayloadLen {
     Bytes(u64),
     Nothing,

@@ -1,4 +1,6 @@
 // From datagram to packets: header decode, split and walk (packet.rs).
+#![tactic(auto)]
+
 mod header; // header.rt: what a header says
 mod partial; // partial.rt: the first packet and the rest
 mod protected; // protected.rt: the header as far as it can be read without keys

@@ -9,14 +9,14 @@ use crate::{Decoded, ProtectedHeader};
 use coding::{Place, PlaceRead, Refusal};
 
 // What follows the packet, if it has a byte.
-#[derive(Drop)]
+#[derive(Clone, Copy)]
 pub enum Rest {
     At(Place),
     Nothing,
 }
 
 // A packet with its header, both as far as they can be read without keys. A refused one has no bytes, and no rest.
-#[derive(Drop)]
+#[derive(Clone, Copy)]
 pub struct PartialDecode {
     pub plain_header: Decoded,
     pub packet: Place,

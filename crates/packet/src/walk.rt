@@ -8,7 +8,7 @@ use crate::{Decoded, PartialDecode, ProtectedHeader};
 use coding::{Place, Refusal};
 
 // What a step meets: the end of the datagram, a packet, or a refusal with its start.
-#[derive(Drop)]
+#[derive(Clone, Copy)]
 pub enum Found {
     End,
     Packet(Place),
@@ -16,7 +16,7 @@ pub enum Found {
 }
 
 // With the header there. Its places are relative to the packet. At the end stands the header of no bytes, refused 1.
-#[derive(Drop)]
+#[derive(Clone, Copy)]
 pub struct Stepped {
     pub found: Found,
     pub plain_header: Decoded,

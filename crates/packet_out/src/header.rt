@@ -10,7 +10,7 @@ use number::Tagged;
 use packet::{LongHeaderType, LongType};
 use shared::{CutNumber, FIXED_BIT, KEY_PHASE_BIT, LONG_HEADER_FORM, SPIN_BIT};
 
-#[derive(Drop)]
+#[derive(Clone, Copy)]
 pub enum Header {
     Initial {
         number: CutNumber,
@@ -35,14 +35,14 @@ pub enum Header {
 }
 
 // A header's packet number, where it has one.
-#[derive(Drop)]
+#[derive(Clone, Copy)]
 pub enum HeaderNumber {
     Cut(CutNumber),
     Nothing,
 }
 
 // A long header's version; a short header has none.
-#[derive(Drop)]
+#[derive(Clone, Copy)]
 pub enum Version {
     Long(u32),
     Short,
@@ -50,7 +50,7 @@ pub enum Version {
 
 // What stands around the connection ids, whatever the kind: the first byte, the version, and whether there is a token, and
 // a Length.
-#[derive(Drop)]
+#[derive(Clone, Copy)]
 pub struct Form {
     pub first: u8,
     pub version: Version,

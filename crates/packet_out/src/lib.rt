@@ -1,5 +1,7 @@
 // Packets out: a header into a lent buffer, and its Length (packet.rs, Header::encode and PartialEncode::finish; RFC 9000, 17).
 // Encryption follows, and then protect's mask step.
+#![tactic(auto)]
+
 mod header; // header.rt: the kinds of header, and what stands around the connection ids
 
 ghost use Rattle.std.specs.Prelude.{◌≡◌, true, ◌+◌, ◌≤◌, length};
@@ -23,7 +25,7 @@ use protect::NumberLen;
 use shared::{ConnectionId, MAX_CID_SIZE};
 
 // What a header was written with: its length, its number's, and whether a Length is to be set.
-#[derive(Drop)]
+#[derive(Clone, Copy)]
 pub struct PartialEncode {
     pub header_len: usize,
     pub number: NumberLen,
@@ -31,14 +33,14 @@ pub struct PartialEncode {
 }
 
 // A header was written, or a refusal.
-#[derive(Drop)]
+#[derive(Clone, Copy)]
 pub enum Encoded {
     Partial(PartialEncode),
     Refused(Refusal),
 }
 
 // The Length step is done, or a refusal.
-#[derive(Drop)]
+#[derive(Clone, Copy)]
 pub enum LengthSet {
     Done,
     Refused(Refusal),

@@ -1,5 +1,7 @@
 // Header protection, where the packet stands (RFC 9001, 5.4; packet.rs, PartialDecode::finish, decrypt_header and
 // PartialEncode::finish): the sample's place, finish, and the mask step. The mask comes as a value.
+#![tactic(auto)]
+
 ghost use Rattle.std.specs.Prelude.{◌≡◌, true, ◌+◌, ◌≤◌, length, drop, set};
 ghost use Rattle.coding.specs.Words.{ok};
 ghost use Rattle.number.specs.Cutting.{first_cut};
@@ -12,7 +14,7 @@ use coding::{MAX_DATAGRAM, Place, Refusal};
 use shared::{CutNumber, KEY_PHASE_BIT, LONG_HEADER_FORM, LONG_RESERVED_BITS, SHORT_RESERVED_BITS};
 
 // The kind of a header.
-#[derive(Drop)]
+#[derive(Clone, Copy)]
 pub enum Kind {
     Initial,
     ZeroRtt,
@@ -53,14 +55,14 @@ impl Kind {
 }
 
 // The length of a header's number, where it has one.
-#[derive(Drop)]
+#[derive(Clone, Copy)]
 pub enum NumberLen {
     Bytes(usize),
     Nothing,
 }
 
 // The place of the sample, none where there is no number, or a refusal.
-#[derive(Drop)]
+#[derive(Clone, Copy)]
 pub enum SamplePlace {
     At(Place),
     Nothing,
@@ -68,7 +70,7 @@ pub enum SamplePlace {
 }
 
 // What finish says of a long and of a short packet, that there is no number, or a refusal.
-#[derive(Drop)]
+#[derive(Clone, Copy)]
 pub enum Finished {
     Long {
         number: CutNumber,
@@ -84,7 +86,7 @@ pub enum Finished {
 }
 
 // The mask step is done, or a refusal.
-#[derive(Drop)]
+#[derive(Clone, Copy)]
 pub enum Masked {
     Done,
     Refused(Refusal),

@@ -1,4 +1,6 @@
 // Prints what `coding` and `shared` answer to packed cases, a line for a case (cases/src/stdio.rt).
+#![tactic(auto)]
+
 mod kinds; // kinds.rt: the operations of `shared`
 mod leaf; // leaf.rt: the operations of `coding`
 

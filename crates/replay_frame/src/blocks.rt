@@ -93,7 +93,7 @@ pub(crate) fn ackiter(largest: u64, b: &[u8], out: &mut [u8], at: usize) -> usiz
 }
 
 // The counts after a codepoint's was raised, or as they were with the refusal; none where there is no codepoint.
-#[derive(Drop)]
+#[derive(Clone, Copy)]
 struct Raised {
     answer: Answer,
     counted: bool,

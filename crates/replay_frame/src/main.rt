@@ -1,4 +1,6 @@
 // Prints what `frame`, `ack` and `ecn` answer to packed cases, a line for a case (cases/src/stdio.rt).
+#![tactic(auto)]
+
 mod blocks; // blocks.rt: ACK blocks and ECN counts
 mod shown; // shown.rt: a frame's text
 mod walk; // walk.rt: the frames of a payload

@@ -71,7 +71,7 @@ const END: usize = 220_03;
 const REFUSED: usize = 213_02;
 
 // A word and its numbers: the first n of these, and `-` for the one at `dash`.
-#[derive(Drop)]
+#[derive(Clone, Copy)]
 pub(crate) struct Text {
     word: usize,
     n: usize,

@@ -8,7 +8,7 @@ use frame::{FrameRead, FrameStep};
 
 // What a step of the walk says: the texts of its start and of itself, and where the next step is, where there is one; and what
 // the first says of the whole payload.
-#[derive(Drop)]
+#[derive(Clone, Copy)]
 struct Met {
     begun: Text,
     text: Text,

@@ -1,4 +1,6 @@
 // Prints what `frame_out` and `ack_out` answer to packed cases, a line for a case (cases/src/stdio.rt).
+#![tactic(auto)]
+
 mod encoders; // encoders.rt: the encoders
 mod leaf; // leaf.rt: the codecs beside them, the sizes
 

@@ -1,5 +1,7 @@
 // Prints what the functions of `gateway` answer to packed cases, a line for a case (cases/src/stdio.rt): every field of the record
 // in its order, then the bytes at its places and all of a lent buffer.
+#![tactic(auto)]
+
 mod frames; // frames.rt: frame_read
 mod headers; // headers.rt: header_write and mask
 mod numbers; // numbers.rt: number_step

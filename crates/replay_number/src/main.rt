@@ -1,4 +1,6 @@
 // Prints what `number` and `spaces` answer to packed cases, a line for a case (cases/src/stdio.rt).
+#![tactic(auto)]
+
 mod numbers; // numbers.rt: packet numbers
 mod one_space; // one_space.rt: a run of steps over one space
 mod three_spaces; // three_spaces.rt: a run of steps over the record of three

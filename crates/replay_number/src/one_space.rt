@@ -7,7 +7,7 @@ use number::{Largest, SendAnswer, Space, SpaceAnswer};
 use shared::{CutNumber, FullNumber};
 
 // A step of a run: its number, and two numbers.
-#[derive(Drop)]
+#[derive(Clone, Copy)]
 pub(crate) struct Step {
     pub(crate) op: u8,
     pub(crate) n: u64,

@@ -9,7 +9,7 @@ use shared::{CutNumber, FullNumber};
 use spaces::{SendAnswer, Spaces, SpacesAnswer};
 
 // A step in the space of a packet's kind.
-#[derive(Drop)]
+#[derive(Clone, Copy)]
 struct KindStep {
     kind: Kind,
     step: Step,

@@ -33,7 +33,7 @@ fn flag(is: bool) -> u64 {
 }
 
 // What only a kind has: a token and a number, a number, or nothing.
-#[derive(Drop)]
+#[derive(Clone, Copy)]
 enum Shown {
     Token(Place, u64),
     Number(u64),

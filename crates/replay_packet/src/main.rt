@@ -1,4 +1,6 @@
 // Prints what `packet` and `dump_text` answer to packed cases, a line for a case (cases/src/stdio.rt).
+#![tactic(auto)]
+
 mod header; // header.rt: a header's text
 mod reading; // reading.rt: header decode, split, walk, dump
 

@@ -63,7 +63,7 @@ fn split(ns: Numbers, s: &[u8], versions: &[u32], out: &mut [u8], p: usize) -> u
 }
 
 // A step of the walk: a packet with its kind, number offset and the place past it; or the end, with a refusal's number or 0.
-#[derive(Drop)]
+#[derive(Clone, Copy)]
 enum Met {
     Packet(Place, Place, usize),
     Last(usize, u64),

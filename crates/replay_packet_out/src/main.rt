@@ -1,4 +1,6 @@
 // Prints what `packet_out` and `protect` answer to packed cases, a line for a case (cases/src/stdio.rt).
+#![tactic(auto)]
+
 mod encoding; // encoding.rt: a record's header, and encode
 mod sealing; // sealing.rt: the Length step, the mask step, and all of it
 

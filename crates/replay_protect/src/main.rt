@@ -1,4 +1,6 @@
 // Prints what `protect`, where it reads, answers to packed cases, a line for a case (cases/src/stdio.rt).
+#![tactic(auto)]
+
 mod opening; // opening.rt: the sample's place, and finish
 
 use cases::line::Answer;

@@ -30,7 +30,7 @@ fn kind_words(kind: Kind) -> Place {
 
 // What finish says: the number's length, its value and whether the reserved bits are clear, and the place of the words after
 // them: 0 or 1 for the key phase, none, or none of all four.
-#[derive(Drop)]
+#[derive(Clone, Copy)]
 struct Said {
     number: NumberLen,
     value: u64,

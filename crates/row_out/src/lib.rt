@@ -1,5 +1,7 @@
 // What every frame's writer is made of: integers, one after the other, and bytes after them (frame.rs, the encoders;
 // coding.rs, write_var). The table of frames says which.
+#![tactic(auto)]
+
 ghost use Rattle.std.specs.Prelude.{◌≡◌, true, [], ◌+◌, ◌≤◌, length};
 ghost use Rattle.coding.specs.Said.{sized_of, wrote_of};
 ghost use Rattle.coding.specs.Writing.{length_of, Written, Put};

@@ -15,21 +15,21 @@ pub const MAX_CID_SIZE: usize = 20;
 const LONGEST_CID: u8 = MAX_CID_SIZE as u8;
 
 // Protocol-level identifier for a connection: its length, and its bytes with zeros past them.
-#[derive(Drop)]
+#[derive(Clone, Copy)]
 pub struct ConnectionId {
     pub len: u8,
     pub bytes: [u8; MAX_CID_SIZE],
 }
 
 // The place past a CID that was read, or a refusal.
-#[derive(Drop)]
+#[derive(Clone, Copy)]
 pub enum CidAnswer {
     At(usize),
     Refused(Refusal),
 }
 
 // What a call that makes a CID answers; beside a refusal stands the empty CID.
-#[derive(Drop)]
+#[derive(Clone, Copy)]
 pub struct CidRead {
     pub answer: CidAnswer,
     pub cid: ConnectionId,

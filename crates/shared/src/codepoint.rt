@@ -4,7 +4,7 @@ ghost use Rattle.shared.specs.Ecn.{ecn_bits};
 ghost use Rattle.shared.specs.Said.{ecn_of, ecn_read_of};
 
 // Explicit congestion notification codepoint.
-#[derive(Drop)]
+#[derive(Clone, Copy)]
 pub enum EcnCodepoint {
     // ECT(0): an endpoint is ECN-capable
     Ect0,
@@ -15,7 +15,7 @@ pub enum EcnCodepoint {
 }
 
 // A codepoint, or none for the bits 00.
-#[derive(Drop)]
+#[derive(Clone, Copy)]
 pub enum EcnRead {
     Ecn(EcnCodepoint),
     Nothing,

@@ -7,40 +7,40 @@ use crate::types;
 use coding::Refusal;
 
 // Whether an endpoint was the initiator of a connection.
-#[derive(Drop)]
+#[derive(Clone, Copy)]
 pub enum Side {
     Client,
     Server,
 }
 
 // Whether a stream communicates data in both directions or only from the initiator.
-#[derive(Drop)]
+#[derive(Clone, Copy)]
 pub enum Dir {
     Bi,
     Uni,
 }
 
 // Identifier for a stream within a particular connection.
-#[derive(Drop)]
+#[derive(Clone, Copy)]
 pub struct StreamId(pub u64);
 
 // A stream id, or a refusal.
-#[derive(Drop)]
+#[derive(Clone, Copy)]
 pub enum StreamMade {
     Stream(StreamId),
     Refused(Refusal),
 }
 
 // A frame's type.
-#[derive(Drop)]
+#[derive(Clone, Copy)]
 pub struct FrameType(pub u64);
 
 // A full packet number.
-#[derive(Drop)]
+#[derive(Clone, Copy)]
 pub struct FullNumber(pub u64);
 
 // A cut packet number: its length in bytes, 1 to 4, and its value, below 2^(8 length).
-#[derive(Drop)]
+#[derive(Clone, Copy)]
 pub struct CutNumber(pub usize, pub u32);
 
 impl Side {

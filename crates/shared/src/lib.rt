@@ -1,5 +1,7 @@
 // Connection ids, ECN codepoints, the kinds of number that a connection counts with (shared.rs; lib.rs), and the bits of a
 // header's first byte (packet.rs).
+#![tactic(auto)]
+
 mod bits; // bits.rt: the bits of a header's first byte
 mod cid; // cid.rt: connection ids
 mod codepoint; // codepoint.rt: explicit congestion notification

@@ -1,5 +1,7 @@
 // The three number spaces of an end in one record: a value that goes in and comes back. A call takes the packet's kind and
 // looks at that kind's space alone. A refused call hands the whole record back as it was.
+#![tactic(auto)]
+
 ghost use Rattle.std.specs.Prelude.{◌≡◌};
 ghost use Rattle.number.specs.Said.{full_of, ends_of, kept_of};
 ghost use Rattle.spaces.specs.Each.{of, put, space_for};
@@ -12,7 +14,7 @@ use packet::SpaceId;
 use protect::Kind;
 use shared::{CutNumber, FullNumber};
 
-#[derive(Drop)]
+#[derive(Clone, Copy)]
 pub struct Spaces {
     pub initial: Space,
     pub handshake: Space,
@@ -20,7 +22,7 @@ pub struct Spaces {
 }
 
 // What was sent and the record past it, or a refusal and the record as it was.
-#[derive(Drop)]
+#[derive(Clone, Copy)]
 pub enum SendAnswer {
     Sent {
         number: FullNumber,
@@ -34,7 +36,7 @@ pub enum SendAnswer {
 }
 
 // The record afterwards, or a refusal and the record as it was.
-#[derive(Drop)]
+#[derive(Clone, Copy)]
 pub enum SpacesAnswer {
     Done(Spaces),
     Refused { why: Refusal, spaces: Spaces },

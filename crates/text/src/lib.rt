@@ -1,4 +1,6 @@
 // Numbers and bytes as text, put into a lent buffer. As the other puts, a put that does not fit changes nothing.
+#![tactic(auto)]
+
 ghost use Rattle.std.specs.Prelude.{◌≡◌, ◌+◌, ◌≤◌, ◌<◌, length};
 ghost use Rattle.coding.specs.Bytes.{splice};
 ghost use Rattle.coding.specs.Writing.{Put};

@@ -1,6 +1,8 @@
 // C functions for bench/ alone: what the gateway's surface does not export. Integers read one after the other, packet numbers cut
 // and read back, encoders of each shape and the dump's text, each over a proved crate. An answer's refusal comes first: 0 for none,
 // else document 01's number.
+#![tactic(auto)]
+
 ghost use Rattle.std.specs.Prelude.{◌≡◌, eqb};
 ghost use Rattle.std.proofs.Math.Option.{none};
 ghost use Rattle.coding.specs.Words.{ok};
@@ -20,7 +22,7 @@ use shared::{ConnectionId, CutNumber, FrameType, FullNumber, StreamId};
 
 // What came before the end or a refusal: how many, and the exclusive or of all.
 #[repr(C)]
-#[derive(Drop)]
+#[derive(Clone, Copy)]
 pub struct GatheredAnswer {
     pub refusal: u8,
     pub count: usize,
@@ -29,7 +31,7 @@ pub struct GatheredAnswer {
 
 // The length of what was written, 0 beside a refusal.
 #[repr(C)]
-#[derive(Drop)]
+#[derive(Clone, Copy)]
 pub struct WriteAnswer {
     pub refusal: u8,
     pub len: usize,

@@ -1,0 +1,11 @@
+use Rattle.shared.specs.Streams.{initiator_of}
+use native.Mathlib.Omega.{arith}
+use Rattle.shared.proofs.kinds.StreamId.initiator.Goals as goal
+
+pub returns-then-self-eq0 : goal.returns-then-self-eq0
+unfolding initiator_of
+returns-then-self-eq0 c = omega arith
+
+pub returns-else-self-eq0 : goal.returns-else-self-eq0
+unfolding initiator_of
+returns-else-self-eq0 c = omega arith
