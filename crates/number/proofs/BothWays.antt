@@ -12,12 +12,11 @@ use Rattle.coding.specs.Words.{if◌then◌else◌, ok}
 use Rattle.number.specs.Cutting.{cut, window_of, bytes_for}
 use Rattle.number.specs.Ends.{SoFar, none, at, Ends, base_of, expected_of, larger_of, Call, Packet, send_by, read_by}
 use Rattle.number.specs.Line.{World, fresh_world, LineStep, Reach, AsSent, Near, Low}
-use Rattle.number.specs.Line.LineStep.{hears}
 use Rattle.number.specs.Line.Reach.{start, next}
 use Rattle.number.proofs.Windows.{Window, window_made, bytes_are}
 use Rattle.number.proofs.Calls.{SendMade}
 use Rattle.number.proofs.Going.{packet, base_le, send_packet, Paced, More, more, Accepted, accept_it, Heard, hear_it, rounds, up_to, heard_all}
-use Rattle.number.proofs.Delivery.{inv, LargestIn, largest_in, reads, delivered, heard}
+use Rattle.number.proofs.Delivery.{inv, LargestIn, largest_in, reads, delivered}
 
 -- ---- for every length a packet, and numbers that overtake it
 

@@ -3,7 +3,6 @@ use Rattle.coding.proofs.Rules.{steps}
 use Rattle.ack.specs.Step.{ack_step}
 use Rattle.ack.specs.Said.{range_step_of, taken_of}
 use Rattle.ack.proofs.Laws.{var_small}
-use borrow.Author.Rules.{rules}
 use Rattle.ack.proofs.ack_step.Goals as goal
 
 pub returns-then-s-gt-MAX_DATAGRAM : goal.returns-then-s-gt-MAX_DATAGRAM

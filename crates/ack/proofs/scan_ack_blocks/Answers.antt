@@ -1,7 +1,6 @@
 use Rattle.coding.proofs.Rules.{steps}
 use Rattle.ack.specs.Scan.{scanned, scan_at}
 use Rattle.ack.specs.Said.{scanned_of}
-use borrow.Author.Rules.{rules}
 use Rattle.ack.proofs.scan_ack_blocks.Goals as goal
 
 pub returns-then-s-gt-MAX_DATAGRAM : goal.returns-then-s-gt-MAX_DATAGRAM

@@ -1,14 +1,8 @@
-use lib.ListN.{length}
-use Prim.Native.Nat.{◌-◌}
-use mathlib.Core.Path.{◌≡◌, refl, ◌∙◌}
+use mathlib.Core.Path.{refl, ◌∙◌}
 use native.Mathlib.Omega.{arith}
-use borrow.Author.Rules.{rules}
-use Rattle.ack.specs.Scan.{rounds}
 use Rattle.ack.specs.Said.{scanned_of}
 use Rattle.ack.proofs.Laws.{none, round_on, round_no, round_past}
 use Rattle.ack.proofs.scan_rounds.Goals as goal
-
--- each turn takes bytes, so that no count makes more turns than there are bytes
 
 pub loop-left-init : goal.loop-left-init
 loop-left-init c = refl

@@ -1,4 +1,3 @@
-use borrow.Author.Tests.{not-true, not-false}
 use native.Mathlib.Omega.{arith}
 use lib.ListN.{length}
 use mathlib.Core.Path.{sym, ◌∙◌}
@@ -8,7 +7,6 @@ use Rattle.coding.specs.Said.{wrote_of}
 use Rattle.coding.proofs.Laws.{length_bytes_be}
 use Rattle.coding.proofs.Writes.{written_no, written_short, written_ok, put_so}
 use Rattle.number.proofs.Cuts.{put_in, out_in, out_out}
-use borrow.Author.Rules.{rules}
 use Rattle.number.proofs.encode.Goals as goal
 
 pub returns-then-not-is_cut : goal.returns-then-not-is_cut

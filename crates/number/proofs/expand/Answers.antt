@@ -1,10 +1,8 @@
-use borrow.Author.Tests.{not-true, not-false}
 use native.Mathlib.Omega.{arith}
 use mathlib.Core.Path.{sym, ◌∙◌}
 use Rattle.number.specs.Said.{full_of}
 use Rattle.number.proofs.Windows.{cut_rule}
 use Rattle.number.proofs.Readings.{expanded_out, expanded_high, expanded_in}
-use borrow.Author.Rules.{rules}
 use Rattle.number.proofs.expand.Goals as goal
 
 pub returns-then-not-is_cut : goal.returns-then-not-is_cut

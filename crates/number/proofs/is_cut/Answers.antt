@@ -1,6 +1,5 @@
 use mathlib.Core.Path.{sym}
 use Rattle.number.proofs.Windows.{cut_few, cut_many, cut_test}
-use borrow.Author.Rules.{rules}
 use Rattle.number.proofs.is_cut.Goals as goal
 
 pub returns-then-k-lt1 : goal.returns-then-k-lt1

@@ -1,7 +1,6 @@
 use Rattle.number.proofs.Readings.{a3_next, a3_top, a3_here, a3_before, a3_first}
 use native.Mathlib.Omega.{arith}
 use native.Mathlib.Nat.{mod-le}
-use borrow.Author.Rules.{rules}
 use Rattle.number.proofs.nearest.Goals as goal
 
 pub overflow_sub-candidate : goal.overflow_sub-candidate

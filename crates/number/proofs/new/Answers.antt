@@ -3,7 +3,6 @@ use native.Mathlib.Omega.{arith}
 use native.Mathlib.Nat.{mod-lt}
 use Rattle.number.specs.Said.{cut_made_of}
 use Rattle.number.proofs.Cuts.{made_high, made_below, made_far, made_cut, made_window}
-use borrow.Author.Rules.{rules}
 use Rattle.number.proofs.new.Goals as goal
 
 pub returns-then-number-gt-MAX_NUMBER : goal.returns-then-number-gt-MAX_NUMBER

@@ -1,10 +1,8 @@
-use borrow.Author.Tests.{not-true, not-false}
 use native.Mathlib.Omega.{arith}
 use mathlib.Core.Path.{sym, ◌∙◌}
 use Rattle.coding.proofs.Writes.{put_none}
 use Rattle.number.proofs.Windows.{cut_rule}
 use Rattle.number.proofs.Cuts.{put_out, put_length}
-use borrow.Author.Rules.{rules}
 use Rattle.number.proofs.put.Goals as goal
 
 pub returns-then-not-is_cut : goal.returns-then-not-is_cut

@@ -1,10 +1,8 @@
-use borrow.Author.Tests.{not-true, not-false}
 use native.Mathlib.Omega.{arith}
 use mathlib.Core.Path.{sym, ◌∙◌}
 use Rattle.number.specs.Said.{tag_of}
 use Rattle.number.proofs.Windows.{cut_rule}
 use Rattle.number.proofs.Cuts.{tag_in, tag_out}
-use borrow.Author.Rules.{rules}
 use Rattle.number.proofs.tag.Goals as goal
 
 pub returns-then-not-is_cut : goal.returns-then-not-is_cut

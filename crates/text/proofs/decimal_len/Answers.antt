@@ -1,8 +1,4 @@
-use Prim.Native.Nat.{◌+◌}
-use mathlib.Core.Path.{◌≡◌}
 use native.Mathlib.Omega.{arith}
-use lib.ListN.{length}
-use Rattle.text.specs.Decimal.{decimal}
 use Rattle.text.proofs.Laws.{length_one, length_more, length_u64, decimal_some}
 use Rattle.text.proofs.decimal_len.Goals as goal
 

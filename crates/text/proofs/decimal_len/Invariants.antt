@@ -1,9 +1,7 @@
 use Prim.Native.Nat.{◌+◌}
 use mathlib.Core.Path.{◌≡◌}
-use native.Mathlib.Omega.{arith}
 use lib.ListN.{length}
 use Rattle.text.specs.Decimal.{decimal}
-use Rattle.text.proofs.Laws.{length_one, length_more, length_u64, decimal_some}
 use Rattle.text.proofs.decimal_len.Given as goal
 
 abbrev pub invariant-loop-v : goal.invariant-loop-v

@@ -1,4 +1,3 @@
-use borrow.Author.Rules.{rules}
 use Rattle.coding.proofs.Rules.{steps}
 use Rattle.text.specs.Hex.{hex_digit}
 use Rattle.text.proofs.hex_digit.Goals as goal

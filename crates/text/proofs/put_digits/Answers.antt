@@ -1,11 +1,10 @@
 use borrow.Author.Rules.{rules}
 use native.Mathlib.Omega.{arith}
 use mathlib.Core.Path.{◌≡◌, ap, ◌∙◌}
-use Prim.Native.Nat.{◌+◌, ◌-◌, ◌/◌, ◌^◌, ◌≤◌}
 use native.Mathlib.Nat.{sub-zero, sub_self, add-zero, div-one}
 use lib.ListN.{length}
-use lib.Seq.{sets, length-sets}
-use Rattle.text.proofs.Steps.{last_of, digit_more, rest_more, last_none, sets_decimal}
+use lib.Seq.{length-sets}
+use Rattle.text.proofs.Steps.{digit_more, rest_more, last_none, sets_decimal}
 use Rattle.text.proofs.put_digits.Goals as goal
 
 pub loop-i-init : goal.loop-i-init

@@ -1,11 +1,7 @@
-use borrow.Author.Rules.{rules}
-use native.Mathlib.Omega.{arith}
-use mathlib.Core.Path.{◌≡◌, ap, ◌∙◌}
+use mathlib.Core.Path.{◌≡◌}
 use Prim.Native.Nat.{◌+◌, ◌-◌, ◌/◌, ◌^◌, ◌≤◌}
-use native.Mathlib.Nat.{sub-zero, sub_self, add-zero, div-one}
-use lib.ListN.{length}
-use lib.Seq.{sets, length-sets}
-use Rattle.text.proofs.Steps.{last_of, digit_more, rest_more, last_none, sets_decimal}
+use lib.Seq.{sets}
+use Rattle.text.proofs.Steps.{last_of}
 use Rattle.text.proofs.put_digits.Given as goal
 
 abbrev pub invariant-loop-i : goal.invariant-loop-i

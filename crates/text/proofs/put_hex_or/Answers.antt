@@ -1,6 +1,5 @@
 use native.Mathlib.Omega.{arith}
 use Rattle.text.proofs.Laws.{hex_none, hex_some}
-use borrow.Author.Rules.{rules}
 use Rattle.text.proofs.put_hex_or.Goals as goal
 
 pub returns-then-bytes-eq0 : goal.returns-then-bytes-eq0

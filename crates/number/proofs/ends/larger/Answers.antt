@@ -2,7 +2,6 @@ use borrow.Author.Tests.{lt-ltb, le-ltb}
 use Rattle.coding.specs.Words.{if◌then◌else◌}
 use Rattle.number.specs.Ends.{larger_of}
 use Rattle.number.specs.Said.{so_far_of}
-use borrow.Author.Rules.{rules}
 use Rattle.number.proofs.ends.larger.Goals as goal
 
 pub returns-in_default : goal.returns-in_default

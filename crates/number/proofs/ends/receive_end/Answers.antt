@@ -3,7 +3,6 @@ use mathlib.Core.Path.{sym}
 use Rattle.number.specs.Ends.{expected_of}
 use Rattle.number.specs.Said.{so_far_of}
 use Rattle.number.proofs.Calls.{receive_yes, receive_no}
-use borrow.Author.Rules.{rules}
 use Rattle.number.proofs.ends.receive_end.Goals as goal
 
 pub returns-in_default : goal.returns-in_default

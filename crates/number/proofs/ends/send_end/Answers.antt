@@ -3,7 +3,6 @@ use mathlib.Core.Path.{sym}
 use Rattle.number.specs.Ends.{expected_of}
 use Rattle.number.specs.Said.{so_far_of}
 use Rattle.number.proofs.Calls.{send_yes, send_high, send_unsent}
-use borrow.Author.Rules.{rules}
 use Rattle.number.proofs.ends.send_end.Goals as goal
 
 pub returns-then-next-gt-NUMBER_END : goal.returns-then-next-gt-NUMBER_END

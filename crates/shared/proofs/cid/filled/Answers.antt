@@ -1,11 +1,8 @@
 use Rattle.shared.specs.Cid.{cid_of}
 use Rattle.shared.proofs.Laws.{fill_more}
 use native.Mathlib.Omega.{arith}
-use borrow.Author.Rules.{rules}
 use mathlib.Core.Path.{◌≡◌, refl}
-use mathlib.Core.List.{◌++◌}
-use Prim.Native.Nat.{◌-◌, ◌≤◌}
-use lib.ListN.{length, take, replicate}
+use lib.ListN.{length}
 use lib.Seq.{take_all}
 use Rattle.shared.proofs.cid.filled.Goals as goal
 

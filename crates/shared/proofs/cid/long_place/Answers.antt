@@ -3,7 +3,6 @@ use Prim.Native.Nat.{◌<◌}
 use Rattle.shared.specs.Cid.{long_cid_at}
 use Rattle.coding.specs.Said.{place_of}
 use Rattle.coding.proofs.Rules.{steps}
-use borrow.Author.Rules.{rules}
 use Rattle.shared.proofs.cid.long_place.Goals as goal
 
 pub returns-in_default : goal.returns-in_default

@@ -1,7 +1,6 @@
 use Rattle.shared.specs.Cid.{no_cid}
 use Rattle.shared.specs.Said.{cid_read_of, cid_answer_of}
 use Rattle.shared.proofs.Rules.{cid_ways}
-use borrow.Author.Rules.{rules}
 use Rattle.shared.proofs.cid.refused.Goals as goal
 
 pub returns : goal.returns

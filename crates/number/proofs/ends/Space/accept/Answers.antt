@@ -1,8 +1,6 @@
-use borrow.Author.Tests.{not-true, not-false}
 use mathlib.Core.Path.{sym, ◌∙◌}
 use Rattle.number.specs.Said.{kept_of}
 use Rattle.number.proofs.Calls.{accept_14, accept_high, accept_on}
-use borrow.Author.Rules.{rules}
 use Rattle.number.proofs.ends.Space.accept.Goals as goal
 
 pub returns-then-not-receive_end : goal.returns-then-not-receive_end

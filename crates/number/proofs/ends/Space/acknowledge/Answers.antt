@@ -1,8 +1,6 @@
-use borrow.Author.Tests.{not-true, not-false}
 use mathlib.Core.Path.{sym, ◌∙◌}
 use Rattle.number.specs.Said.{kept_of}
 use Rattle.number.proofs.Calls.{acknowledge_14, acknowledge_unsent, acknowledge_on}
-use borrow.Author.Rules.{rules}
 use Rattle.number.proofs.ends.Space.acknowledge.Goals as goal
 
 pub returns-then-not-send_end : goal.returns-then-not-send_end

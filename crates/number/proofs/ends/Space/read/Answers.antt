@@ -2,7 +2,6 @@ use native.Mathlib.Omega.{arith}
 use Rattle.number.specs.Ends.{expected_of, read_by}
 use Rattle.number.specs.Said.{full_of, so_far_of}
 use Rattle.number.proofs.Readings.{expanded_past}
-use borrow.Author.Rules.{rules}
 use Rattle.number.proofs.ends.Space.read.Goals as goal
 
 pub returns-in_default : goal.returns-in_default

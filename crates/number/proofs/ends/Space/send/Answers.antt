@@ -1,6 +1,5 @@
 use Rattle.coding.specs.Words.{no, ok}
 use Rattle.coding.specs.Refusals.{number_of}
-use borrow.Author.Tests.{not-true, not-false}
 use native.Mathlib.Omega.{arith}
 use mathlib.Core.Path.{sym, ap, ◌∙◌}
 use Rattle.number.specs.Cutting.{cut_made}
@@ -8,7 +7,6 @@ use Rattle.number.specs.Ends.{send_with}
 use Rattle.number.specs.Said.{cut_made_of, sent_of}
 use Rattle.number.proofs.Cuts.{cut_is}
 use Rattle.number.proofs.Calls.{send_14, send_on}
-use borrow.Author.Rules.{rules}
 use Rattle.number.proofs.ends.Space.send.Goals as goal
 
 pub returns-then-not-send_end : goal.returns-then-not-send_end

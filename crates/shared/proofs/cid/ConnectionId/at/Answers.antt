@@ -3,7 +3,6 @@ use Rattle.shared.proofs.Laws.{part_short}
 use Rattle.coding.proofs.Rules.{choices, le_yes}
 use native.Mathlib.Omega.{arith}
 use mathlib.Core.Path.{◌∙◌, ap}
-use borrow.Author.Rules.{rules}
 use Rattle.shared.proofs.cid.ConnectionId.at.Goals as goal
 
 pub returns-then-p-gt-MAX_CID_SIZE : goal.returns-then-p-gt-MAX_CID_SIZE

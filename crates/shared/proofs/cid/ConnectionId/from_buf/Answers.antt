@@ -1,7 +1,6 @@
 use Rattle.shared.specs.Cid.{cid_from}
 use Rattle.shared.specs.Said.{cid_read_of, cid_answer_of}
 use Rattle.shared.proofs.Rules.{cid_ways}
-use borrow.Author.Rules.{rules}
 use Rattle.shared.proofs.cid.ConnectionId.from_buf.Goals as goal
 
 pub returns-then-len-gt-MAX_CID_SIZE : goal.returns-then-len-gt-MAX_CID_SIZE

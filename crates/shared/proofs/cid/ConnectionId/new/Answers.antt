@@ -1,7 +1,6 @@
 use Rattle.shared.specs.Cid.{cid_new}
 use Rattle.shared.specs.Said.{cid_read_of, cid_answer_of}
 use Rattle.shared.proofs.Rules.{cid_ways}
-use borrow.Author.Rules.{rules}
 use Rattle.shared.proofs.cid.ConnectionId.new.Goals as goal
 
 pub returns-then-bytes-gt-MAX_CID_SIZE : goal.returns-then-bytes-gt-MAX_CID_SIZE

@@ -1,4 +1,3 @@
-use borrow.Author.Rules.{rules}
 use Rattle.shared.proofs.codepoint.EcnCodepoint.is_ce.Goals as goal
 
 pub returns-in-Ect0 : goal.returns-in-Ect0

@@ -1,4 +1,3 @@
-use borrow.Author.Rules.{rules}
 use Rattle.shared.proofs.kinds.Side.is_client.Goals as goal
 
 pub returns-in-Client : goal.returns-in-Client

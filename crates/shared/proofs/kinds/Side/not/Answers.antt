@@ -1,4 +1,3 @@
-use borrow.Author.Rules.{rules}
 use Rattle.shared.proofs.kinds.Side.not.Goals as goal
 
 pub returns-in-Client : goal.returns-in-Client

@@ -2,7 +2,6 @@ use Rattle.shared.specs.Streams.{stream_made, stream_id}
 use Rattle.shared.specs.Said.{stream_of}
 use Rattle.coding.specs.Words.{if◌then◌else◌}
 use borrow.Author.Tests.{lt-ltb, le-ltb}
-use borrow.Author.Rules.{rules}
 use Rattle.shared.proofs.kinds.StreamId.new.Goals as goal
 
 pub returns-then-index-lt1152921504606846976 : goal.returns-then-index-lt1152921504606846976
