@@ -1,7 +1,7 @@
 -- What the records give back: what `packet`, `spaces` and the caller of header_write said. The maps here undo those of Packets and
 -- Numbers; the laws are proved in proofs/SplitBack, UnmaskBack, WrittenBack and NumbersBack.
 use Rattle.std.specs.Prelude.{ℕ, ◌+◌, ◌%◌, ◌^◌, ◌≤◌, ◌<◌, ◌≡◌, List, ◌++◌, Bool, true, false, not, length, take, drop, eqb}
-use Rattle.std.proofs.Math.Option.{Option, none, some, Option·elim}
+use Rattle.std.proofs.Math.Option.{Option, none, some, Option-elim}
 use Rattle.coding.specs.Words.{if◌then◌else◌, Answer, no, ok}
 use Rattle.coding.specs.Places.{part_of}
 use Rattle.coding.specs.declared.Place.{Place}
@@ -122,7 +122,7 @@ UnmaskGivesBack =
 -- the kinds by number are those that decode reads: which are long, which have a number, and in which number space
 abbrev pub KindsAgree : Type 0
 KindsAgree =
-    (h : Header) → (long_kind (kind_of h) ≡ is_long (ok h)) × (numbered_kind (kind_of h) ≡ Option·elim (space_in (ok h)) false (λ n. true))
+    (h : Header) → (long_kind (kind_of h) ≡ is_long (ok h)) × (numbered_kind (kind_of h) ≡ Option-elim (space_in (ok h)) false (λ n. true))
     × (space_of (id_in (space_for (kind_at (kind_of h)))) ≡ space_in (ok h))
 
 -- ---- header_write, then split

@@ -9,7 +9,7 @@ use lib.ListN.{length, take, drop, get_or, length-take, length-drop}
 use lib.Seq.{get_or-take, get_or-drop, ext_get_or}
 use lib.Dec.{ltb, eqb}
 use borrow.Author.Tests.{ltb-true, ltb-false, lt-ltb, le-ltb, le-leb}
-use Rattle.coding.specs.Words.{if◌then◌else◌, got, and_then, no, ok}
+use Rattle.coding.specs.Words.{if◌then◌else◌, got, and_then, ok}
 use Rattle.coding.specs.Bytes.{byte_at, be}
 use Rattle.coding.specs.Places.{part_of}
 use Rattle.coding.specs.Reading.{fixed_at, take_at}
@@ -22,7 +22,7 @@ use Rattle.shared.specs.declared.cid.ConnectionId.{ConnectionId}
 use Rattle.shared.proofs.Laws.{long_inside}
 use Rattle.packet.specs.TypeBits.{PacketType}
 use Rattle.packet.specs.TypeBits as type
-use Rattle.packet.specs.Header.{Header, initial, zero_rtt, handshake, retry, short, negotiate, Outcome, refused_header, outside, unfixed, listed, headed, initial_at, length_at, tail_at, body_at, long_at, short_at, first_at, header_by}
+use Rattle.packet.specs.Header.{Header, zero_rtt, handshake, negotiate, Outcome, refused_header, outside, unfixed, listed, headed, initial_at, length_at, tail_at, body_at, long_at, short_at, first_at, header_by}
 use Rattle.packet.proofs.Within.{body_within}
 
 -- a refusal is no header

@@ -1,6 +1,6 @@
 -- The walk over a datagram's packets: RFC 9000, 12.2.
 use Rattle.std.specs.Prelude.{ℕ, zero, suc, ◌+◌, List, [], ◌∷◌, Bool, length, drop, leb, eqb}
-use Rattle.std.proofs.Math.Option.{Option·elim}
+use Rattle.std.proofs.Math.Option.{Option-elim}
 use Rattle.coding.specs.Words.{if◌then◌else◌, Answer, no, ok}
 use Rattle.packet.specs.Header.{Header, Outcome, refused_header, outside}
 use Rattle.packet.specs.Split.{Split, split_at}
@@ -32,7 +32,7 @@ unfoldable pub packets_from : ℕ → ℕ → List ℕ → ℕ → List ℕ → 
 packets_from zero start s local versions grease = step_on start (split_at s local versions grease) ∷ []
 packets_from (suc turns) start s local versions grease =
     step_on start (split_at s local versions grease)
-    ∷ Option·elim (split_at s local versions grease).rest [] (λ p. packets_from turns (start + p.start) (drop p.start s) local versions grease)
+    ∷ Option-elim (split_at s local versions grease).rest [] (λ p. packets_from turns (start + p.start) (drop p.start s) local versions grease)
 
 unfoldable pub walk_at : List ℕ → ℕ → List ℕ → Bool → List PacketStep
 walk_at s local versions grease = packets_from (length s) 0 s local versions grease

@@ -2,7 +2,6 @@ use mathlib.Core.Path.{ap, ◌∙◌}
 use Rattle.coding.proofs.Rules.{steps}
 use Rattle.packet.specs.Said.{outcome_of}
 use Rattle.packet.specs.Split.{no_packet, split_by}
-use borrow.Author.Rules.{rules}
 use Rattle.packet.proofs.partial.by_length.Goals as goal
 
 pub returns-in_default : goal.returns-in_default

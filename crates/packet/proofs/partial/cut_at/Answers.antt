@@ -1,6 +1,5 @@
 use Rattle.packet.specs.Said.{split_of}
 use Rattle.packet.specs.Split.{cut_at}
-use borrow.Author.Rules.{rules}
 use Rattle.packet.proofs.partial.cut_at.Goals as goal
 
 pub returns : goal.returns

@@ -1,7 +1,6 @@
 use Rattle.coding.proofs.Rules.{choices}
 use Rattle.packet.specs.Split.{rest_at}
 use Rattle.packet.specs.Said.{rest_of}
-use borrow.Author.Rules.{rules}
 use Rattle.packet.proofs.partial.rest_at.Goals as goal
 
 pub returns-then-n-s : goal.returns-then-n-s

@@ -1,6 +1,5 @@
 use Rattle.packet.specs.Said.{rest_of}
 use Rattle.packet.specs.Split.{rest_in}
-use borrow.Author.Rules.{rules}
 use Rattle.packet.proofs.partial.rest_place.Goals as goal
 
 pub returns-in-At : goal.returns-in-At

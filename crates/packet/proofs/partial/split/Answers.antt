@@ -3,7 +3,6 @@ use Rattle.packet.specs.Header.{Outcome, length_in}
 use Rattle.packet.specs.Said.{header_of, outcome_of}
 use Rattle.packet.specs.Split.{split_on, split_with}
 use Rattle.packet.proofs.Cases.{split_no, split_all, split_some, long_length}
-use borrow.Author.Rules.{rules}
 use Rattle.packet.proofs.partial.split.Goals as goal
 
 pub returns-in-Initial : goal.returns-in-Initial

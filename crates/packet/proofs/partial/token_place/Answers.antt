@@ -2,7 +2,6 @@ use mathlib.Core.Path.{sym}
 use Rattle.packet.specs.Said.{header_of}
 use Rattle.packet.specs.Split.{token_in}
 use Rattle.packet.proofs.Cases.{long_no_token}
-use borrow.Author.Rules.{rules}
 use Rattle.packet.proofs.partial.token_place.Goals as goal
 
 pub returns-in-Initial : goal.returns-in-Initial

@@ -1,7 +1,6 @@
 use Rattle.coding.proofs.Rules.{choices}
 use Rattle.packet.specs.Header.{first_at}
 use Rattle.packet.proofs.Cases.{made_tests}
-use borrow.Author.Rules.{rules}
 use Rattle.packet.proofs.protected.any_header.Goals as goal
 
 pub returns-then-is_unfixed : goal.returns-then-is_unfixed

@@ -1,7 +1,6 @@
 use Rattle.coding.proofs.Rules.{steps}
 use Rattle.packet.specs.Header.{header_by}
 use Rattle.packet.proofs.Cases.{made_tests}
-use borrow.Author.Rules.{rules}
 use Rattle.packet.proofs.protected.decode.Goals as goal
 
 pub returns-then-is_outside : goal.returns-then-is_outside

@@ -1,7 +1,6 @@
 use Rattle.coding.proofs.Rules.{steps}
 use Rattle.packet.specs.Header.{initial_at, headed}
 use Rattle.packet.specs.Said.{header_of, outcome_of}
-use borrow.Author.Rules.{rules}
 use Rattle.packet.proofs.protected.initial_tail.Goals as goal
 
 pub returns-in_default : goal.returns-in_default

@@ -1,9 +1,5 @@
-use Prim.Native.Nat.{◌-◌, ◌≤◌}
-use mathlib.Core.Path.{◌≡◌, refl, sym, ◌∙◌}
+use mathlib.Core.Path.{refl, sym, ◌∙◌}
 use native.Mathlib.Omega.{arith}
-use borrow.Author.Rules.{rules}
-use lib.ListN.{length, drop}
-use Rattle.packet.specs.Header.{listed}
 use Rattle.packet.proofs.Cases.{listed_hit, listed_miss, listed_none}
 use Rattle.packet.proofs.protected.is_listed.Goals as goal
 

@@ -1,10 +1,7 @@
 use Prim.Native.Nat.{◌-◌, ◌≤◌}
-use mathlib.Core.Path.{◌≡◌, refl, sym, ◌∙◌}
-use native.Mathlib.Omega.{arith}
-use borrow.Author.Rules.{rules}
+use mathlib.Core.Path.{◌≡◌}
 use lib.ListN.{length, drop}
 use Rattle.packet.specs.Header.{listed}
-use Rattle.packet.proofs.Cases.{listed_hit, listed_miss, listed_none}
 use Rattle.packet.proofs.protected.is_listed.Given as goal
 
 abbrev pub invariant-loop-i : goal.invariant-loop-i

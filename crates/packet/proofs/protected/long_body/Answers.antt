@@ -2,7 +2,6 @@ use Rattle.coding.proofs.Rules.{choices}
 use Rattle.packet.specs.Header.{body_at, headed}
 use Rattle.packet.specs.Said.{header_of, outcome_of}
 use Rattle.packet.proofs.Cases.{low_seven, made_tests}
-use borrow.Author.Rules.{rules}
 use Rattle.packet.proofs.protected.long_body.Goals as goal
 
 pub returns-then-version-eq0 : goal.returns-then-version-eq0

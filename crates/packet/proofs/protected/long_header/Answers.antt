@@ -1,6 +1,5 @@
 use Rattle.shared.proofs.Rules.{cid_steps}
 use Rattle.packet.specs.Header.{long_at}
-use borrow.Author.Rules.{rules}
 use Rattle.packet.proofs.protected.long_header.Goals as goal
 
 pub returns-in_default : goal.returns-in_default

@@ -1,4 +1,3 @@
-use borrow.Author.Rules.{rules}
 use Rattle.packet.proofs.protected.long_named.Goals as goal
 
 pub returns : goal.returns

@@ -2,7 +2,6 @@ use mathlib.Core.Path.{◌∙◌}
 use Rattle.packet.specs.Header.{tail_at, headed}
 use Rattle.packet.specs.Said.{long_type_of, header_of, outcome_of}
 use Rattle.packet.proofs.Cases.{long_tail}
-use borrow.Author.Rules.{rules}
 use Rattle.packet.proofs.protected.long_tail.Goals as goal
 
 pub returns-in-Initial : goal.returns-in-Initial

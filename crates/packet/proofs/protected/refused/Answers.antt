@@ -1,6 +1,5 @@
 use Rattle.packet.specs.Header.{refused_header}
 use Rattle.packet.specs.Said.{header_of, outcome_of}
-use borrow.Author.Rules.{rules}
 use Rattle.packet.proofs.protected.refused.Goals as goal
 
 pub returns : goal.returns

@@ -1,6 +1,5 @@
 use Rattle.packet.specs.Walk.{met_on}
 use Rattle.packet.specs.Said.{header_of, met_of}
-use borrow.Author.Rules.{rules}
 use Rattle.packet.proofs.walk.found_at.Goals as goal
 
 pub returns-in-Initial : goal.returns-in-Initial

@@ -8,7 +8,6 @@ use Rattle.packet.proofs.Cases.{made_tests, from_on}
 use Rattle.packet.specs.Split.{split_at}
 use Rattle.packet.specs.Said.{packet_step_of, met_of}
 use Rattle.packet.specs.Walk.{step_on, packet_step_at}
-use borrow.Author.Rules.{rules}
 use Rattle.packet.proofs.walk.step.Goals as goal
 
 pub returns-then-is_outside : goal.returns-then-is_outside
@@ -27,8 +26,8 @@ pub returns : goal.returns
 unfolding packet_step_at
 returns c =
     let a = c.args in
-    let e : packet_step_of c.step_on_law.result ≡ step_on a.at (split_at (drop a.at a.s.now) a.local a.versions.now a.grease) =
-    c.step_on_law.ensures
+    let e : packet_step_of c.step_on.result ≡ step_on a.at (split_at (drop a.at a.s.now) a.local a.versions.now a.grease) =
+    c.step_on.ensures
     ∙ ap (step_on a.at) (c.split.ensures ∙ ap (λ (t : List ℕ). split_at t a.local a.versions.now a.grease) (from_on a.s.now a.at (omega arith)))
     in
     search (made_tests, choices)

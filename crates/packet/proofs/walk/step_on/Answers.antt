@@ -1,6 +1,5 @@
 use Rattle.packet.specs.Said.{outcome_of, split_of, packet_step_of}
 use Rattle.packet.specs.Walk.{step_on}
-use borrow.Author.Rules.{rules}
 use Rattle.packet.proofs.walk.step_on.Goals as goal
 
 pub returns : goal.returns

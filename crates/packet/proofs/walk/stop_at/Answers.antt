@@ -1,6 +1,5 @@
 use Rattle.packet.specs.Said.{met_of, packet_step_of}
 use Rattle.packet.specs.Walk.{stop_at}
-use borrow.Author.Rules.{rules}
 use Rattle.packet.proofs.walk.stop_at.Goals as goal
 
 pub returns : goal.returns

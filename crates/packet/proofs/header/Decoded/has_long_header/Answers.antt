@@ -2,7 +2,6 @@ use Rattle.packet.specs.Said.{header_of}
 use Rattle.packet.specs.Header.{is_long, kind_of}
 use Rattle.packet.proofs.Cases.{long_long}
 use mathlib.Core.Path.{sym}
-use borrow.Author.Rules.{rules}
 use Rattle.packet.proofs.header.Decoded.has_long_header.Goals as goal
 
 pub returns-in-Initial : goal.returns-in-Initial

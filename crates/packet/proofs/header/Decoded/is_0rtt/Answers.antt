@@ -1,6 +1,5 @@
 use Rattle.packet.specs.Header.{is_kind, kind_of}
 use Rattle.packet.specs.Said.{header_of, long_of}
-use borrow.Author.Rules.{rules}
 use Rattle.packet.proofs.header.Decoded.is_0rtt.Goals as goal
 
 pub returns-in-Initial : goal.returns-in-Initial

@@ -2,7 +2,6 @@ use Rattle.packet.specs.Said.{header_of}
 use Rattle.packet.specs.Header.{is_kind, kind_of}
 use Rattle.packet.proofs.Cases.{long_not_initial}
 use mathlib.Core.Path.{sym}
-use borrow.Author.Rules.{rules}
 use Rattle.packet.proofs.header.Decoded.is_initial.Goals as goal
 
 pub returns-in-Initial : goal.returns-in-Initial

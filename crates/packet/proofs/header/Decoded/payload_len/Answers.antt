@@ -2,7 +2,6 @@ use Rattle.packet.specs.Said.{header_of, len_of}
 use Rattle.packet.specs.Header.{length_in}
 use Rattle.packet.proofs.Cases.{long_length}
 use mathlib.Core.Path.{sym}
-use borrow.Author.Rules.{rules}
 use Rattle.packet.proofs.header.Decoded.payload_len.Goals as goal
 
 pub returns-in-Initial : goal.returns-in-Initial

@@ -1,6 +1,5 @@
 use Rattle.packet.specs.Header.{space_in}
 use Rattle.packet.specs.Said.{header_of, long_of, space_of}
-use borrow.Author.Rules.{rules}
 use Rattle.packet.proofs.header.Decoded.space.Goals as goal
 
 pub returns-in-Initial : goal.returns-in-Initial

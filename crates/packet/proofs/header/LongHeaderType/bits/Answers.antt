@@ -3,7 +3,6 @@ use borrow.Author.Tests.{eq-eqb, ne_eqb}
 use Rattle.coding.specs.Words.{if◌then◌else◌}
 use Rattle.packet.specs.TypeBits.{bits_one, bits_two, bits_of}
 use Rattle.packet.specs.Said.{long_type_of}
-use borrow.Author.Rules.{rules}
 use Rattle.packet.proofs.header.LongHeaderType.bits.Goals as goal
 
 pub returns-in-Retry : goal.returns-in-Retry

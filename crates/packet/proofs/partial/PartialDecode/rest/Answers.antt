@@ -1,4 +1,3 @@
-use borrow.Author.Rules.{rules}
 use Rattle.packet.proofs.partial.PartialDecode.rest.Goals as goal
 
 pub returns : goal.returns
