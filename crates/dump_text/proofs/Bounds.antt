@@ -2,7 +2,7 @@
 use mathlib.Core.Path.{◌≡◌, refl}
 use mathlib.Core.List.{List, [], ◌∷◌}
 use mathlib.Core.Bool.{Bool, true, false, ◌||◌}
-use mathlib.Core.Option.{none, some}
+use mathlib.Core.Option.{none}
 use Prim.Native.Nat.{ℕ, zero, suc, ◌+◌, ◌-◌, ◌*◌, ◌^◌, ◌≤◌, ◌<◌}
 use native.Mathlib.Omega.{arith}
 use lib.ListN.{length, drop, length-append, length-drop}
@@ -11,7 +11,7 @@ use borrow.Author.Tests.{ltb-true, ltb-false}
 use Rattle.coding.specs.Words.{Answer, no, ok}
 use Rattle.packet.specs.Header.{Header, initial, zero_rtt, handshake, retry, short, negotiate, Outcome, refused_header, outside, length_in}
 use Rattle.packet.specs.Split.{Split}
-use Rattle.packet.specs.Walk.{packet, PacketStep, step_on, stop_at, packets_from, walk_at}
+use Rattle.packet.specs.Walk.{PacketStep, step_on, stop_at, packets_from, walk_at}
 use Rattle.packet.proofs.Within.{least}
 use Rattle.packet.proofs.Splits.{split_taken, split_refused}
 use Rattle.packet.proofs.Walks.{first, size, met_no, met_ok, walk_no, walk_last, walk_more, walk_refused, header_outside, least_pos, step_out, step_empty, step_end, step_in}

@@ -2,14 +2,14 @@
 use Prim.Native.Nat.{ℕ, zero, suc, ◌+◌, ◌-◌, ◌/◌, ◌%◌, ◌<◌, ◌≤◌}
 use mathlib.Core.Path.{◌≡◌, refl, sym, ap, ◌∙◌}
 use mathlib.Core.List.{List, [], ◌∷◌}
-use mathlib.Core.Bool.{Bool, true, false, not, ◌&&◌}
+use mathlib.Core.Bool.{Bool, true, false, ◌&&◌}
 use mathlib.Core.Option.{Option, none, some}
 use native.Mathlib.Nat.{not-suc-le-zero}
 use native.Mathlib.Omega.{arith}
 use lib.Bits.{bit_and, bit_xor}
 use lib.Dec.{leb, eqb}
-use lib.ListN.{length, drop, set, length-drop, length_set}
-use borrow.Author.Tests.{lt-ltb, le-ltb, eq-eqb, ne_eqb, leb-true, not-true, not-false}
+use lib.ListN.{length, drop, set, length-drop, length-set}
+use borrow.Author.Tests.{lt-ltb, le-ltb, eq-eqb, ne_eqb, leb-true}
 use Rattle.coding.specs.Words.{if◌then◌else◌, Answer, no, ok, max_datagram}
 use Rattle.coding.specs.Bytes.{byte_at}
 use Rattle.shared.specs.FirstByte.{long_header_form, long_reserved_bits, short_reserved_bits, key_phase_bit}
@@ -26,15 +26,15 @@ use Rattle.protect.proofs.Inside.{four_left}
 
 -- ---- a test that a function of its own made, by what the code saw of it
 
-pub told : {r t : Bool} → r ≡ t → not r ≡ false → t ≡ true
-told {r} e h = sym e ∙ not-false r h
+pub told : {r t : Bool} → r ≡ t → r ≡ true → t ≡ true
+told {r} e h = sym e ∙ h
 
-pub denied : {r t : Bool} → r ≡ t → not r ≡ true → t ≡ false
-denied {r} e h = sym e ∙ not-true r h
+pub denied : {r t : Bool} → r ≡ t → r ≡ false → t ≡ false
+denied {r} e h = sym e ∙ h
 
 -- rule 8 has passed
-pub reaches : {r : Bool} (len at : ℕ) → r ≡ has_sample len at → not r ≡ false → at + 20 ≤ len
-reaches {r} len at e h = omega (arith, leb-true (at + 4 + 16) len (sym e ∙ not-false r h))
+pub reaches : {r : Bool} (len at : ℕ) → r ≡ has_sample len at → r ≡ true → at + 20 ≤ len
+reaches {r} len at e h = omega (arith, leb-true (at + 4 + 16) len (sym e ∙ h))
 
 -- ---- a call that changes a packet refuses, or has changed it
 
@@ -76,7 +76,7 @@ module _ (first : ℕ) (number : CutNumber) where
 pub still_left : (packet ms : List ℕ) (at b n : ℕ) {new : List ℕ} → has_sample (length packet) at ≡ true → n ≤ 4 → new ≡ xor_at at ms (set packet 0 b)
     → at + n ≤ length new
 still_left packet ms at b n {new} k h e =
-    let l : length new ≡ length packet = ap length e ∙ length_xor_at at ms (set packet 0 b) ∙ length_set packet 0 b in
+    let l : length new ≡ length packet = ap length e ∙ length_xor_at at ms (set packet 0 b) ∙ length-set packet 0 b in
     omega (arith, l, four_left packet at k, length-drop at packet)
 
 module _ (long : Bool) (packet : List ℕ) (at : ℕ) (mask : List ℕ) where

@@ -7,7 +7,7 @@ use mathlib.Core.Option.{Option}
 use native.Mathlib.Nat.{not-suc-le-zero}
 use native.Mathlib.Omega.{arith}
 use lib.Bits.{bit_xor}
-use lib.ListN.{length, take, drop, set, length-drop, length_set, take-append-drop}
+use lib.ListN.{length, take, drop, set, length-drop, length-set, take-append-drop}
 use lib.Seq.{take_all, drop-length}
 use borrow.Rule.Slice.PartMut.{mid_of, put_mid, Post-is, mid_len}
 use Rattle.coding.specs.Bytes.{byte_at}
@@ -28,7 +28,7 @@ tail_back a l bs h =
 
 -- the number has room in the part
 pub room : (l : List ℕ) (at b n : ℕ) → at + 4 ≤ length l → n ≤ 4 → n ≤ length (mid_of at (length (set l 0 b) - at) (set l 0 b))
-room l at b n h k = omega (arith, mid_len at (length (set l 0 b)) (set l 0 b) (omega (arith, length_set l 0 b)), length_set l 0 b)
+room l at b n h k = omega (arith, mid_len at (length (set l 0 b)) (set l 0 b) (omega (arith, length-set l 0 b)), length-set l 0 b)
 
 pub mask_part : (l last : List ℕ) (at : ℕ) (ms : List ℕ) → at ≤ length l → last ≡ xor ms (mid_of at (length l - at) l)
     → put_mid at (length l - at) l last ≡ xor_at at ms l

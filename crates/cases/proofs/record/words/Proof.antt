@@ -1,7 +1,7 @@
 -- Each number goes to its place, and the list keeps its length.
 use Prim.Native.Nat.{◌-◌, ◌≤◌}
 use mathlib.Core.Path.{◌≡◌, sym, ◌∙◌}
-use lib.ListN.{length, length_set}
+use lib.ListN.{length, length-set}
 use native.Mathlib.Omega.{arith}
 use borrow.Author.Rules.{rules}
 use Rattle.cases.specs.Records.{words_from}
@@ -29,7 +29,7 @@ loop-again : tie.Need-loop-preserved invariant-loop decreases-loop
 loop-again c =
     let l = c.before.before.before.before.before.loop in
     let more = words_more _ l.at (length c.before.before.before.before.before.before.before.before.args.list.now) l.n l.list _ c.before.before.before.get-u32.ensures _ _ (omega arith) c.before.x.given.1 in
-    (simp length_set (omega arith), (simp length_set l.invariant.1.0, l.invariant.1.1 ∙ more))
+    (simp length-set (omega arith), (simp length-set l.invariant.1.0, l.invariant.1.1 ∙ more))
 
 returns-2 : tie.Need-returns-2 invariant-loop decreases-loop
 returns-2 c =
@@ -51,7 +51,7 @@ words-spec =
     (λ c. search rules)
     (λ c. search rules)
     (λ c. search rules)
-    (λ c. simp length_set (omega arith))
+    (λ c. simp length-set (omega arith))
     loop-again
     (λ c. search rules)
     returns-2)

@@ -2,7 +2,7 @@
 use Prim.Native.Nat.{◌-◌, ◌≤◌}
 use mathlib.Core.Path.{◌≡◌}
 use native.Mathlib.Omega.{arith}
-use lib.ListN.{length, length_set}
+use lib.ListN.{length, length-set}
 use borrow.Author.Rules.{rules}
 use Rattle.replay_frame_out.proofs.encoders.numbers.Statement.{statement}
 use Rattle.replay_frame_out.proofs.encoders.numbers.Tie as tie
@@ -41,10 +41,10 @@ add-i : tie.Need-overflow-add-i invariant-loop decreases-loop
 add-i c = search rules
 
 loop-less : tie.Need-loop-smaller invariant-loop decreases-loop
-loop-less c = simp length_set (omega arith)
+loop-less c = simp length-set (omega arith)
 
 loop-again : tie.Need-loop-preserved invariant-loop decreases-loop
-loop-again c = (simp length_set (omega arith), simp length_set c.before.before.before.before.before.loop.invariant.1)
+loop-again c = (simp length-set (omega arith), simp length-set c.before.before.before.before.before.loop.invariant.1)
 
 same-length-2 : tie.Need-same-length-2 invariant-loop decreases-loop
 same-length-2 c = search rules
