@@ -1,0 +1,7 @@
+use Rattle.packet_out.proofs.WholePut.{long_run}
+use borrow.Author.Rules.{rules}
+use Rattle.packet_out.proofs.put_long.Goals as goal
+
+pub returns : goal.returns
+returns c =
+    long_run c.args.cid.now c.requires.0 c.requires.1 c.put_u8-next.ensures c.put_slice.ensures
