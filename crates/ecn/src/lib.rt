@@ -1,5 +1,5 @@
-// ECN counts, each raised by one where it stands (frame.rs, EcnCounts and its add_assign). A function that lends the counts is
-// proved by hand; `raised` does it for callers with plain values, which need no such proof.
+// ECN counts, each raised by one where it stands (frame.rs, EcnCounts and its add_assign); `raised` does it for callers with plain
+// values.
 #![tactic(auto)]
 
 ghost use Rattle.std.specs.Prelude.{◌≡◌};

@@ -1,6 +1,5 @@
 use Rattle.coding.proofs.Rules.{choices}
 use Rattle.ecn.specs.Said.{more_of}
-use borrow.Author.Rules.{rules}
 use Rattle.ecn.proofs.more.Goals as goal
 
 pub returns-then-n-lt-MAX_NUMBER : goal.returns-then-n-lt-MAX_NUMBER
