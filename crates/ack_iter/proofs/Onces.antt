@@ -1,4 +1,4 @@
--- Only one answer meets the contract of each public function. The reader's own two have no `Reads`: only one state of the reader meets their contracts too.
+-- Only one answer meets the contract of each public function, and of `next` only one state of the reader too.
 use Prim.Native.Nat.{ℕ}
 use mathlib.Core.Path.{◌∙◌, sym, refl}
 use mathlib.Core.List.{List}
@@ -7,34 +7,35 @@ use Rattle.ack.specs.declared.AckStep.{AckStep}
 use Rattle.ack.proofs.Inverse.{step_one}
 use Rattle.ack_iter.specs.declared.AckIter.{AckIter}
 use Rattle.ack_iter.specs.contracts.AckIter.new as new
+use Rattle.ack_iter.proofs.AckIter.new.Reads as new-reads
 use Rattle.ack_iter.specs.contracts.AckIter.next as next
+use Rattle.ack_iter.proofs.AckIter.next.Reads as next-reads
 use Rattle.ack_iter.specs.contracts.nth_range as nth-range
 use Rattle.ack_iter.proofs.nth_range.Reads as nth-range-reads
 
 -- the whole reader, its reference too: `new` hands back the reference that it got
-new_once : OnceOf new.ended (λ M. new.clauses) (λ κs x s. x)
+new_once : Once new.ended new-reads.Post (λ κs x s. x)
 unfolding Once
-new_once = record {
-  claim = _;
-  is = λ M 𝓤 𝓛 mem run κs a g x s. refl;
-  once = λ κs a x y s t p q i. record { largest = (p.0 ∙ sym q.0) i; «data» = (p.1 ∙ sym q.1) i };
-}
+new_once κs a x y s t p q i = record { largest = (p.0 ∙ sym q.0) i; «data» = (p.1 ∙ sym q.1) i }
 
 -- of the reader a caller sees the largest number, where its slice points, and the bytes there
 abbrev pub seen : AckIter → ℕ × (ℕ × ℕ) × List ℕ
 seen it = (it.largest.0, it.«data».ref_ptr, it.«data».now)
 
-next_once : OnceOf {B = AckStep × (ℕ × (ℕ × ℕ) × List ℕ)} next.ended (λ M. next.clauses) (λ κs x s. (x, seen s.0.now))
+next_once : Once {B = AckStep × (ℕ × (ℕ × ℕ) × List ℕ)} next.ended next-reads.Post (λ κs x s. (x, seen s.0.now))
 unfolding Once
-next_once = record {
-  claim = _;
-  is = λ M 𝓤 𝓛 mem run κs a g x s. refl;
-  once = λ κs a x y s t p q i. (
-    step_one x y _ p.0 q.0 i,
-    ((p.1 ∙ sym q.1) i, ((p.2.block ∙ sym q.2.block) i, (p.2.offset ∙ sym q.2.offset) i), (p.2.bytes ∙ sym q.2.bytes) i),
-  );
-}
+next_once κs a x y s t p q i = (
+  step_one x y _ p.0 q.0 i,
+  ((p.1 ∙ sym q.1) i, ((p.2.block ∙ sym q.2.block) i, (p.2.offset ∙ sym q.2.offset) i), (p.2.bytes ∙ sym q.2.bytes) i),
+)
 
 nth_range_once : Once nth-range.ended nth-range-reads.Post (λ κs x s. x)
 unfolding Once
 nth_range_once κs a x y s t p q = step_one x y _ p q
+
+-- and at every model the `ensures` of the reader's own two are those claims
+new_once_of : OnceOf new.ended (λ M 𝓤. new.clauses) (λ κs x s. x)
+new_once_of = record { claim = new-reads.Post; is = λ M 𝓤 𝓛 mem run κs a g x s. refl; once = new_once }
+
+next_once_of : OnceOf {B = AckStep × (ℕ × (ℕ × ℕ) × List ℕ)} next.ended (λ M 𝓤. next.clauses) (λ κs x s. (x, seen s.0.now))
+next_once_of = record { claim = next-reads.Post; is = λ M 𝓤 𝓛 mem run κs a g x s. refl; once = next_once }

@@ -1,6 +1,5 @@
 // The reader of an ACK frame's ranges (frame.rs, AckIter): it holds the largest number of the range to come and the bytes of the
-// blocks. Its two functions, and `nth_range`, which steps a reader for callers with plain values, are proved by hand; the work is
-// in `step` and `rest_of`, which need none.
+// blocks. `nth_range` steps a reader for callers with plain values; the work is in `step` and `rest_of`.
 #![tactic(auto)]
 
 ghost use Rattle.std.specs.Prelude.{◌≡◌};
