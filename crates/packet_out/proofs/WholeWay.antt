@@ -11,7 +11,7 @@ use lib.Bits.{bit_xor}
 use lib.ListN.{length, drop, length-append}
 use lib.Seq.{drop_at}
 use borrow.Author.Tests.{le-ltb, le-leb}
-use Rattle.coding.specs.Words.{if◌then◌else◌, and_then, no, ok}
+use Rattle.coding.specs.Words.{if◌then◌else◌, and_then, ok}
 use Rattle.coding.specs.Bytes.{byte_at}
 use Rattle.coding.specs.Places.{part_of}
 use Rattle.coding.specs.declared.Place.{Place}

@@ -13,7 +13,7 @@ use Rattle.packet.specs.declared.header.SpaceId.{SpaceId}
 use Rattle.packet.specs.declared.header.SpaceId.TheVariants as id
 use Rattle.protect.specs.declared.Kind.{Kind}
 use Rattle.protect.specs.declared.Kind.TheVariants as kind
-use Rattle.spaces.specs.Each.{Each, of, put, space_for}
+use Rattle.spaces.specs.Each.{of, put, space_for}
 use Rattle.spaces.specs.Calls.{Spaces, read_call, read_in}
 use Rattle.spaces.specs.Lines.{Worlds, LinesStep, Reaches, view, Deliveries}
 use Rattle.spaces.specs.Lines.LinesStep.{sends, accepts, acknowledges, hears}

@@ -4,7 +4,6 @@ use Rattle.packet_out.specs.Said.{plain_of, encoded_of}
 use Rattle.shared.specs.Cid.{cid_of}
 use Rattle.coding.proofs.Writes.{written_no}
 use Rattle.protect.proofs.Cases.{told, denied}
-use borrow.Author.Rules.{rules}
 use Rattle.packet_out.proofs.encode_for.Goals as goal
 
 pub returns-then-not-length_fits : goal.returns-then-not-length_fits

@@ -7,7 +7,6 @@ use Rattle.protect.proofs.Cases.{told, denied}
 use Rattle.packet_out.specs.Encoding.{Shape, number_len_in}
 use Rattle.packet_out.specs.Said.{encoded_of, partial_said, shape_of}
 use Rattle.packet_out.proofs.Laws.{kept, out_rules, out_long, out_ok, out_length, long_seen, fits_seen, size_seen, size_refused, encodes_no, encodes_ok}
-use borrow.Author.Rules.{rules}
 use Rattle.packet_out.proofs.encode_with.Goals as goal
 
 pub returns-then-not-keep_rules : goal.returns-then-not-keep_rules

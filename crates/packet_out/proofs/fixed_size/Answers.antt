@@ -2,7 +2,6 @@ use native.Mathlib.Omega.{arith}
 use Rattle.shared.specs.Cid.{cid_of}
 use Rattle.packet_out.specs.Said.{cut_of}
 use Rattle.packet_out.proofs.Laws.{kept, keeps_few, length_some}
-use borrow.Author.Rules.{rules}
 use Rattle.packet_out.proofs.fixed_size.Goals as goal
 
 pub names_size-names-requires : goal.names_size-names-requires

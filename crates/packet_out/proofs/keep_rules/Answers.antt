@@ -1,7 +1,6 @@
 use borrow.Author.Tests.{lt-leb, le-leb}
 use Rattle.shared.specs.Cid.{cid_of}
 use Rattle.packet_out.specs.Encoding.{keep_rules}
-use borrow.Author.Rules.{rules}
 use Rattle.packet_out.proofs.keep_rules.Goals as goal
 
 pub returns-then-dst_cid-gt-MAX_CID_SIZE : goal.returns-then-dst_cid-gt-MAX_CID_SIZE

@@ -1,7 +1,6 @@
 use Rattle.packet_out.proofs.Laws.{length_small}
 use Rattle.packet_out.specs.Before.{field_for}
 use Rattle.coding.specs.Words.{if◌then◌else◌}
-use borrow.Author.Tests.{not-true, not-false}
 use mathlib.Core.Path.{◌≡◌}
 use mathlib.Core.Bool.{true, false}
 use native.Mathlib.Omega.{arith}

@@ -1,11 +1,10 @@
 use Rattle.packet_out.specs.Before.{length_fits}
 use Rattle.coding.specs.Words.{if◌then◌else◌}
-use borrow.Author.Tests.{not-true, not-false, lt-ltb, le-ltb}
+use borrow.Author.Tests.{lt-ltb, le-ltb}
 use mathlib.Core.Path.{◌≡◌}
 use mathlib.Core.Bool.{true, false}
 use Prim.Native.Nat.{◌+◌, ◌^◌}
 use native.Mathlib.Omega.{arith}
-use borrow.Author.Rules.{rules}
 use Rattle.packet_out.proofs.length_fits.Goals as goal
 
 pub returns-then-not-has_length : goal.returns-then-not-has_length

@@ -9,7 +9,6 @@ use Rattle.protect.proofs.Cases.{changed_no, changed_ok}
 use Rattle.packet_out.specs.Length.{length_field}
 use Rattle.packet_out.specs.Said.{set_of}
 use Rattle.packet_out.proofs.Laws.{into_long, into_ok}
-use borrow.Author.Rules.{rules}
 use Rattle.packet_out.proofs.length_into.Goals as goal
 
 pub returns-then-len-ge16384 : goal.returns-then-len-ge16384

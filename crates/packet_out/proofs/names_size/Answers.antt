@@ -2,7 +2,6 @@ use native.Mathlib.Omega.{arith}
 use mathlib.Core.Path.{sym}
 use Rattle.packet_out.specs.Said.{version_of}
 use Rattle.packet_out.proofs.Laws.{lent_names, lent_short}
-use borrow.Author.Rules.{rules}
 use Rattle.packet_out.proofs.names_size.Goals as goal
 
 pub returns-in-Long : goal.returns-in-Long

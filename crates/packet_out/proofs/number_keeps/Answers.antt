@@ -2,7 +2,6 @@ use mathlib.Core.Path.{sym}
 use Rattle.packet_out.specs.Encoding.{number_keeps}
 use Rattle.packet_out.specs.Said.{cut_of}
 use Rattle.packet_out.proofs.Laws.{tag_kept, tag_not}
-use borrow.Author.Rules.{rules}
 use Rattle.packet_out.proofs.number_keeps.Goals as goal
 
 pub returns-in_default : goal.returns-in_default

@@ -1,6 +1,5 @@
 use Rattle.packet_out.specs.Encoding.{number_len_in}
 use Rattle.packet_out.specs.Said.{cut_of}
-use borrow.Author.Rules.{rules}
 use Rattle.packet_out.proofs.number_len.Goals as goal
 
 pub returns-in-Cut : goal.returns-in-Cut

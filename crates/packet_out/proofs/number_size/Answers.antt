@@ -2,7 +2,6 @@ use Prim.Native.Nat.{ℕ}
 use mathlib.Core.Option.{Option}
 use mathlib.Core.Path.{ap, ◌∙◌}
 use Rattle.protect.specs.Tests.{number_bytes}
-use borrow.Author.Rules.{rules}
 use Rattle.packet_out.proofs.number_size.Goals as goal
 
 pub returns : goal.returns

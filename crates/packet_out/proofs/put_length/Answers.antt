@@ -1,10 +1,8 @@
 use mathlib.Core.Path.{◌≡◌}
 use mathlib.Core.Bool.{true, false}
-use borrow.Author.Tests.{not-true, not-false}
 use Rattle.coding.specs.Words.{if◌then◌else◌}
 use Rattle.coding.proofs.Writes.{put_none}
 use Rattle.packet_out.specs.Encoding.{length_bytes}
-use borrow.Author.Rules.{rules}
 use Rattle.packet_out.proofs.put_length.Goals as goal
 
 pub returns-then-not-has_length : goal.returns-then-not-has_length

@@ -1,5 +1,4 @@
 use Rattle.packet_out.proofs.WholePut.{long_run}
-use borrow.Author.Rules.{rules}
 use Rattle.packet_out.proofs.put_long.Goals as goal
 
 pub returns : goal.returns

@@ -3,7 +3,6 @@ use Rattle.shared.specs.Cid.{cid_of}
 use Rattle.shared.proofs.Back.{cid_same}
 use Rattle.packet_out.specs.Encoding.{names_bytes}
 use Rattle.packet_out.specs.Said.{version_of}
-use borrow.Author.Rules.{rules}
 use Rattle.packet_out.proofs.put_names.Goals as goal
 
 pub returns-in_default : goal.returns-in_default

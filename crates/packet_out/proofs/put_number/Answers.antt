@@ -2,7 +2,6 @@ use Rattle.coding.proofs.Writes.{put_none}
 use Rattle.packet_out.specs.Encoding.{number_keeps, number_field}
 use Rattle.packet_out.specs.Said.{cut_of}
 use Rattle.packet_out.proofs.WholePut.{number_run}
-use borrow.Author.Rules.{rules}
 use Rattle.packet_out.proofs.put_number.Goals as goal
 
 pub returns-in_default : goal.returns-in_default

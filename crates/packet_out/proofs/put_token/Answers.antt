@@ -2,14 +2,12 @@ use native.Mathlib.Omega.{arith}
 use mathlib.Core.Path.{◌≡◌}
 use mathlib.Core.Bool.{true, false}
 use lib.ListN.{length}
-use borrow.Author.Tests.{not-true, not-false}
 use Rattle.coding.specs.Words.{if◌then◌else◌}
 use Rattle.coding.specs.Varint.{var_bytes, var_size}
 use Rattle.coding.proofs.Laws.{put_some, length_var}
 use Rattle.coding.proofs.Writes.{put_none, put_fits, put_so, so_put}
 use Rattle.packet_out.specs.Encoding.{token_bytes}
 use Rattle.packet_out.proofs.Laws.{length_token}
-use borrow.Author.Rules.{rules}
 use Rattle.packet_out.proofs.put_token.Goals as goal
 
 pub returns-then-not-has_token : goal.returns-then-not-has_token

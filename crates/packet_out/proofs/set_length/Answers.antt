@@ -1,12 +1,10 @@
 use mathlib.Core.Path.{◌≡◌, refl}
 use mathlib.Core.Bool.{true}
 use lib.ListN.{length}
-use borrow.Author.Tests.{not-true, not-false}
 use Rattle.protect.specs.Said.{number_len_of}
 use Rattle.protect.proofs.Cases.{told, denied, changed_no, changed_ok}
 use Rattle.packet_out.specs.Said.{set_of}
 use Rattle.packet_out.proofs.Laws.{set_no, set_none, set_on, tests_length}
-use borrow.Author.Rules.{rules}
 use Rattle.packet_out.proofs.set_length.Goals as goal
 
 pub returns-then-not-header_tests : goal.returns-then-not-header_tests

@@ -9,14 +9,13 @@ use Rattle.shared.specs.Cid.{cid_of}
 use Rattle.packet_out.specs.Encoding.{placeholder}
 use Rattle.packet_out.specs.Said.{shape_of, cut_of}
 use Rattle.packet_out.proofs.Laws.{size_bare, size_token, header_fits, header_long}
-use borrow.Author.Rules.{rules}
 use Rattle.packet_out.proofs.size.Goals as goal
 
 pub returns-then-not-form : goal.returns-then-not-form
 unfolding sized_of shape_of
 returns-then-not-form c =
     let a = c.args in
-    let h : a.form.has_token ≡ false = c.if-not-form.true in
+    let h : a.form.has_token ≡ false = not-true _ c.if-not-form.true in
     let l = size_bare placeholder (shape_of a.form) (cut_of a.number) (cid_of a.dst_cid.now) (cid_of a.src_cid.now) a.token.now _ c.fixed_size-fixed.ensures.0 h in
     sym (header_fits _ _ (omega (arith, l, c.fixed_size-fixed.ensures.1)) ∙ ap ok l)
 
@@ -24,7 +23,7 @@ pub returns-then-token-gt-MAX_DATAGRAM : goal.returns-then-token-gt-MAX_DATAGRAM
 unfolding sized_of shape_of
 returns-then-token-gt-MAX_DATAGRAM c =
     let a = c.args in
-    let h : a.form.has_token ≡ true = c.if-not-form.false in
+    let h : a.form.has_token ≡ true = not-false _ c.if-not-form.false in
     let l = size_token placeholder (shape_of a.form) (cut_of a.number) (cid_of a.dst_cid.now) (cid_of a.src_cid.now) a.token.now _ c.fixed_size-fixed.ensures.0 h in
     sym (header_long _ _ (omega (arith, l)))
 
@@ -32,7 +31,7 @@ pub returns-in_default : goal.returns-in_default
 unfolding sized_of shape_of
 returns-in_default c =
     let a = c.args in
-    let h : a.form.has_token ≡ true = c.if-not-form.false in
+    let h : a.form.has_token ≡ true = not-false _ c.if-not-form.false in
     let l = size_token placeholder (shape_of a.form) (cut_of a.number) (cid_of a.dst_cid.now) (cid_of a.src_cid.now) a.token.now _ c.fixed_size-fixed.ensures.0 h in
     let n = sized_not _ _ _ c.size.ensures c.in_default.is in
     sym (header_long _ _ (omega (arith, l, n)))
@@ -51,7 +50,7 @@ pub returns-then-all-gt-MAX_DATAGRAM : goal.returns-then-all-gt-MAX_DATAGRAM
 unfolding sized_of shape_of
 returns-then-all-gt-MAX_DATAGRAM c =
     let a = c.args in
-    let h : a.form.has_token ≡ true = c.if-not-form.false in
+    let h : a.form.has_token ≡ true = not-false _ c.if-not-form.false in
     let l = size_token placeholder (shape_of a.form) (cut_of a.number) (cid_of a.dst_cid.now) (cid_of a.src_cid.now) a.token.now _ c.fixed_size-fixed.ensures.0 h in
     let n = sized_bytes _ _ _ c.size.ensures c.in-Bytes.is in
     sym (header_long _ _ (omega (arith, l, n.1)))
@@ -60,7 +59,7 @@ pub returns : goal.returns
 unfolding sized_of shape_of
 returns c =
     let a = c.args in
-    let h : a.form.has_token ≡ true = c.if-not-form.false in
+    let h : a.form.has_token ≡ true = not-false _ c.if-not-form.false in
     let l = size_token placeholder (shape_of a.form) (cut_of a.number) (cid_of a.dst_cid.now) (cid_of a.src_cid.now) a.token.now _ c.fixed_size-fixed.ensures.0 h in
     let n = sized_bytes _ _ _ c.size.ensures c.in-Bytes.is in
     sym (header_fits _ _ (omega (arith, l, n.1)) ∙ ap ok (l ∙ rw n.1))

@@ -3,7 +3,6 @@ use Rattle.packet.specs.Said.{long_type_of}
 use Rattle.packet_out.specs.Encoding.{plain_number, number_keeps, shape_by}
 use Rattle.packet_out.specs.Said.{plain_of, shape_of, version_of}
 use Rattle.packet_out.proofs.Standard.{long_number, long_shape_law}
-use borrow.Author.Rules.{rules}
 use Rattle.packet_out.proofs.header.form_of.Goals as goal
 
 pub low_bits-requires : goal.low_bits-requires

@@ -2,7 +2,6 @@ use Rattle.packet_out.proofs.Standard.{long_shape_law}
 use Rattle.packet_out.specs.Encoding.{Shape, shape_by}
 use Rattle.packet_out.specs.Said.{plain_of}
 use mathlib.Core.Path.{sym, ap}
-use borrow.Author.Rules.{rules}
 use Rattle.packet_out.proofs.header.has_length.Goals as goal
 
 pub returns-in-Initial : goal.returns-in-Initial

@@ -1,5 +1,4 @@
 use native.Mathlib.Omega.{arith}
-use borrow.Author.Rules.{rules}
 use Rattle.packet_out.specs.Encoding.{long_first}
 use Rattle.packet_out.proofs.header.long_first.Goals as goal
 

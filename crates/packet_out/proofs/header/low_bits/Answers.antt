@@ -1,6 +1,5 @@
 use native.Mathlib.Omega.{arith}
 use Rattle.packet_out.proofs.Laws.{tag_kept, tag_never, cut_short}
-use borrow.Author.Rules.{rules}
 use Rattle.packet_out.proofs.header.low_bits.Goals as goal
 
 pub returns-in_default : goal.returns-in_default

@@ -1,6 +1,5 @@
 use native.Mathlib.Omega.{arith}
 use Rattle.packet_out.specs.Encoding.{short_first}
-use borrow.Author.Rules.{rules}
 use Rattle.packet_out.proofs.header.short_first.Goals as goal
 
 pub returns : goal.returns

@@ -1,6 +1,5 @@
 use Rattle.spaces.specs.Calls.{lifted}
 use Rattle.spaces.specs.Said.{kept_all_of}
-use borrow.Author.Rules.{rules}
 use Rattle.spaces.proofs.Spaces.accept.Goals as goal
 
 pub returns-in_default : goal.returns-in_default

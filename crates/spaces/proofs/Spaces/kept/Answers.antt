@@ -1,7 +1,6 @@
 use Rattle.number.specs.Said.{kept_of}
 use Rattle.spaces.specs.Calls.{within}
 use Rattle.spaces.specs.Said.{kept_all_of}
-use borrow.Author.Rules.{rules}
 use Rattle.spaces.proofs.Spaces.kept.Goals as goal
 
 pub returns-in-Done : goal.returns-in-Done

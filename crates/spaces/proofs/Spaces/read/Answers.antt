@@ -1,7 +1,6 @@
 use Rattle.number.specs.Said.{full_of}
 use Rattle.spaces.specs.Calls.{lifted, read_call}
 use Rattle.spaces.proofs.Lifts.{lifted_says}
-use borrow.Author.Rules.{rules}
 use Rattle.spaces.proofs.Spaces.read.Goals as goal
 
 pub returns-in_default : goal.returns-in_default

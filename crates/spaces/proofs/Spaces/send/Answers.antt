@@ -1,7 +1,6 @@
 use Rattle.number.specs.Said.{sent_of}
 use Rattle.spaces.specs.Calls.{within, lifted}
 use Rattle.spaces.specs.Said.{sent_all_of}
-use borrow.Author.Rules.{rules}
 use Rattle.spaces.proofs.Spaces.send.Goals as goal
 
 pub returns-in_default : goal.returns-in_default

@@ -2,7 +2,6 @@ use mathlib.Core.Path.{sym}
 use Rattle.packet_out.specs.Encoding.{plain_number}
 use Rattle.packet_out.specs.Said.{plain_of, cut_of}
 use Rattle.packet_out.proofs.Standard.{long_number}
-use borrow.Author.Rules.{rules}
 use Rattle.packet_out.proofs.header.Header.number.Goals as goal
 
 pub returns-in-Initial : goal.returns-in-Initial
