@@ -16,7 +16,6 @@ use Rattle.frame.specs.declared.kinds.TypeRead.{TypeRead}
 use Rattle.frame.specs.declared.kinds.TypeRead.TheVariants as ty
 use Rattle.frame.specs.declared.kinds.AckEcn.{AckEcn}
 use Rattle.frame.specs.declared.kinds.AckEcn.TheVariants as ecn
-use Rattle.frame.specs.declared.kinds.Close.{Close}
 use Rattle.frame.specs.declared.kinds.Close.TheVariants as close
 use Rattle.frame.specs.declared.kinds.Frame.{Frame}
 use Rattle.frame.specs.declared.kinds.Frame.TheVariants as frame
