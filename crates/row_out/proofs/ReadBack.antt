@@ -17,10 +17,10 @@ use Rattle.coding.proofs.Back.{fixed_back, take_back, part_back, var_back}
 use Rattle.coding.proofs.Laws.{length_bytes_be, length_var}
 use Rattle.shared.proofs.Laws.{one_byte}
 use Rattle.ack.specs.Scan.{scan_at}
-use Rattle.frame.specs.Format.{Value, num, place, none, Said, said, Field, var, or_none, at_most, bytes, rest, fixed, num64, cid, ack_blocks, const, absent, last_read, last_but_one, Read, done, then_read, bytes_at, all_left_at, cid_at, up_to, blocks_at, or_nothing, field_at, fields_at, in_order}
+use Rattle.frame.specs.Format.{Value, num, none, Said, said, Field, var, or_none, at_most, bytes, rest, fixed, num64, cid, ack_blocks, const, absent, last_read, last_but_one, Read, done, then_read, bytes_at, all_left_at, cid_at, up_to, blocks_at, or_nothing, field_at, fields_at, in_order}
 use Rattle.frame.specs.Table.{Row, look, frame_body_at, outcome, taken, frame_at}
 use Rattle.frame.proofs.Walks.{step_taken, walk_taken}
-use Rattle.row_out.specs.Writing.{Word, number, raw, word_number, word_bytes, rounds_in, field_bytes, row_bytes, frame_bytes}
+use Rattle.row_out.specs.Writing.{Word, raw, word_number, word_bytes, rounds_in, field_bytes, row_bytes, frame_bytes}
 use Rattle.row_out.specs.Back.{as_word, Fits, value_at, values_at, WordsFit, word_read, words_read, ReadAs}
 use Rattle.row_out.specs.Bounds.{bound_of}
 use Rattle.row_out.specs.Limits.{below62, word_numbers, frame_out, vars_out}
@@ -164,7 +164,8 @@ words_back (f ∷ fs) (w ∷ ws) p q seen h =
     let e : length (p ++ b) ≡ length p + length b = length-append p b in
     let ih = words_back fs ws (p ++ b) q (value_at f w (length p) ∷ seen) (rw e h.1) in
     let i = rw (e, append_assoc p b (row_bytes fs ws ++ q)) at ih in
-    rw (append_assoc b (row_bytes fs ws) q, word_back f w p (row_bytes fs ws ++ q) seen h.0, i)
+    ap (λ (s : List ℕ). map (as_word (p ++ s)) (values_at (f ∷ fs) (w ∷ ws) (length p))) (append_assoc b (row_bytes fs ws) q)
+    ∙ rw (word_back f w p (row_bytes fs ws ++ q) seen h.0, i)
 
 -- ---- both together: a frame that was written is read as its words
 
