@@ -1,0 +1,13 @@
+use mathlib.Core.Path.{sym, ◌∙◌}
+use Rattle.coding.specs.Said.{sized_of}
+use Rattle.coding.specs.Writing.{length_of}
+use Rattle.ack_out.proofs.Frames.{not_ranges}
+use borrow.Author.Rules.{rules}
+use Rattle.ack_out.proofs.ack_len.Goals as goal
+
+pub frame_len-requires : goal.frame_len-requires
+frame_len-requires c = sym c.is_ranges.ensures ∙ c.if-is_ranges.true
+
+pub returns : goal.returns
+unfolding sized_of length_of
+returns c = rw (not_ranges _ _ _ (sym c.is_ranges.ensures ∙ c.if-is_ranges.false))

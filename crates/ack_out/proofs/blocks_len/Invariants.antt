@@ -1,0 +1,11 @@
+use native.Mathlib.Omega.{arith}
+use borrow.Author.Rules.{rules}
+use Rattle.ack_out.proofs.Lists.{kept}
+use Rattle.ack_out.proofs.Turns.{Summed, sum_start, sum_on, sum_end}
+use Rattle.ack_out.proofs.blocks_len.Given as goal
+
+abbrev pub invariant-loop-i : goal.invariant-loop-i
+invariant-loop-i l = Summed l.list l.len l.i
+
+abbrev pub decreases-loop-i : goal.decreases-loop-i
+decreases-loop-i l = l.i

@@ -1,0 +1,11 @@
+use native.Mathlib.Omega.{arith}
+use borrow.Author.Rules.{rules}
+use Rattle.ack_out.proofs.Lists.{kept}
+use Rattle.ack_out.proofs.Turns.{Puts, puts_start, puts_length, puts_on, puts_end}
+use Rattle.ack_out.proofs.put_blocks.Given as goal
+
+abbrev pub invariant-loop-i : goal.invariant-loop-i
+invariant-loop-i l = Puts l.list l.initial.buf l.at l.buf l.next l.i
+
+abbrev pub decreases-loop-i : goal.decreases-loop-i
+decreases-loop-i l = l.i

@@ -1,0 +1,12 @@
+use Rattle.coding.specs.Said.{var_of}
+use Rattle.frame_out.specs.Said.{id_read_of}
+use borrow.Author.Rules.{rules}
+use Rattle.frame_out.proofs.codec.decode_stream_id.Goals as goal
+
+pub returns-in_default : goal.returns-in_default
+unfolding var_of id_read_of
+returns-in_default c = rw c.in_default.is at c.get_var.ensures
+
+pub returns : goal.returns
+unfolding var_of id_read_of
+returns c = rw c.in-Var.is at c.get_var.ensures

@@ -1,0 +1,6 @@
+use Rattle.frame_out.proofs.Vals.{token_vals}
+use borrow.Author.Rules.{rules}
+use Rattle.frame_out.proofs.new_token.Goals as goal
+
+pub returns : goal.returns
+returns c = rw (token_vals _) c.frame_of.ensures

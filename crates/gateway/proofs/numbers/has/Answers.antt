@@ -1,0 +1,11 @@
+use Rattle.number.specs.Said.{so_far_of}
+use borrow.Author.Rules.{rules}
+use Rattle.gateway.proofs.numbers.has.Goals as goal
+
+pub returns-in-Nothing : goal.returns-in-Nothing
+unfolding so_far_of
+returns-in-Nothing c = rw c.in-Nothing.is
+
+pub returns-in-At : goal.returns-in-At
+unfolding so_far_of
+returns-in-At c = rw c.in-At.is

@@ -1,0 +1,5 @@
+use borrow.Author.Rules.{rules}
+use Rattle.gateway.proofs.numbers.space_of.Goals as goal
+
+pub returns : goal.returns
+returns c = rw (c.so_far-2.ensures, c.so_far.ensures)
