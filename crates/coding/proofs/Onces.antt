@@ -11,45 +11,45 @@ use Rattle.coding.specs.Writing.{Written, Put}
 use Rattle.coding.specs.declared.Wrote.{Wrote}
 use Rattle.coding.proofs.Inverse.{u8_one, u16_one, u32_one, u64_one, var_one, place_one, made_one, sized_one, wrote_one}
 use Rattle.coding.specs.contracts.refusal.Refusal.number as number
-use Rattle.coding.proofs.refusal.Refusal.number.Reads as number-reads
-use Rattle.coding.specs.contracts.varint.VarInt.from_u32 as from-u32
-use Rattle.coding.proofs.varint.VarInt.from_u32.Reads as from-u32-reads
-use Rattle.coding.specs.contracts.varint.VarInt.from_u64 as from-u64
-use Rattle.coding.proofs.varint.VarInt.from_u64.Reads as from-u64-reads
-use Rattle.coding.specs.contracts.varint.VarInt.into_inner as into-inner
-use Rattle.coding.proofs.varint.VarInt.into_inner.Reads as into-inner-reads
+use Rattle.coding.proofs.refusal.Refusal.number.Reads as number_reads
+use Rattle.coding.specs.contracts.varint.VarInt.from_u32 as from_u32
+use Rattle.coding.proofs.varint.VarInt.from_u32.Reads as from_u32_reads
+use Rattle.coding.specs.contracts.varint.VarInt.from_u64 as from_u64
+use Rattle.coding.proofs.varint.VarInt.from_u64.Reads as from_u64_reads
+use Rattle.coding.specs.contracts.varint.VarInt.into_inner as into_inner
+use Rattle.coding.proofs.varint.VarInt.into_inner.Reads as into_inner_reads
 use Rattle.coding.specs.contracts.varint.VarInt.size as size
-use Rattle.coding.proofs.varint.VarInt.size.Reads as size-reads
+use Rattle.coding.proofs.varint.VarInt.size.Reads as size_reads
 use Rattle.coding.specs.contracts.varint.VarInt.encode as encode
-use Rattle.coding.proofs.varint.VarInt.encode.Reads as encode-reads
-use Rattle.coding.specs.contracts.get_u8 as get-u8
-use Rattle.coding.proofs.get_u8.Reads as get-u8-reads
-use Rattle.coding.specs.contracts.get_u16 as get-u16
-use Rattle.coding.proofs.get_u16.Reads as get-u16-reads
-use Rattle.coding.specs.contracts.get_u32 as get-u32
-use Rattle.coding.proofs.get_u32.Reads as get-u32-reads
-use Rattle.coding.specs.contracts.get_u64 as get-u64
-use Rattle.coding.proofs.get_u64.Reads as get-u64-reads
-use Rattle.coding.specs.contracts.get_var as get-var
-use Rattle.coding.proofs.get_var.Reads as get-var-reads
+use Rattle.coding.proofs.varint.VarInt.encode.Reads as encode_reads
+use Rattle.coding.specs.contracts.get_u8 as get_u8
+use Rattle.coding.proofs.get_u8.Reads as get_u8_reads
+use Rattle.coding.specs.contracts.get_u16 as get_u16
+use Rattle.coding.proofs.get_u16.Reads as get_u16_reads
+use Rattle.coding.specs.contracts.get_u32 as get_u32
+use Rattle.coding.proofs.get_u32.Reads as get_u32_reads
+use Rattle.coding.specs.contracts.get_u64 as get_u64
+use Rattle.coding.proofs.get_u64.Reads as get_u64_reads
+use Rattle.coding.specs.contracts.get_var as get_var
+use Rattle.coding.proofs.get_var.Reads as get_var_reads
 use Rattle.coding.specs.contracts.take as take
-use Rattle.coding.proofs.take.Reads as take-reads
+use Rattle.coding.proofs.take.Reads as take_reads
 use Rattle.coding.specs.contracts.part as part
-use Rattle.coding.proofs.part.Reads as part-reads
-use Rattle.coding.specs.contracts.put_num as put-num
-use Rattle.coding.proofs.put_num.Reads as put-num-reads
-use Rattle.coding.specs.contracts.put_u8 as put-u8
-use Rattle.coding.proofs.put_u8.Reads as put-u8-reads
-use Rattle.coding.specs.contracts.put_u16 as put-u16
-use Rattle.coding.proofs.put_u16.Reads as put-u16-reads
-use Rattle.coding.specs.contracts.put_u32 as put-u32
-use Rattle.coding.proofs.put_u32.Reads as put-u32-reads
-use Rattle.coding.specs.contracts.put_u64 as put-u64
-use Rattle.coding.proofs.put_u64.Reads as put-u64-reads
-use Rattle.coding.specs.contracts.put_slice as put-slice
-use Rattle.coding.proofs.put_slice.Reads as put-slice-reads
-use Rattle.coding.specs.contracts.write_var as write-var
-use Rattle.coding.proofs.write_var.Reads as write-var-reads
+use Rattle.coding.proofs.part.Reads as part_reads
+use Rattle.coding.specs.contracts.put_num as put_num
+use Rattle.coding.proofs.put_num.Reads as put_num_reads
+use Rattle.coding.specs.contracts.put_u8 as put_u8
+use Rattle.coding.proofs.put_u8.Reads as put_u8_reads
+use Rattle.coding.specs.contracts.put_u16 as put_u16
+use Rattle.coding.proofs.put_u16.Reads as put_u16_reads
+use Rattle.coding.specs.contracts.put_u32 as put_u32
+use Rattle.coding.proofs.put_u32.Reads as put_u32_reads
+use Rattle.coding.specs.contracts.put_u64 as put_u64
+use Rattle.coding.proofs.put_u64.Reads as put_u64_reads
+use Rattle.coding.specs.contracts.put_slice as put_slice
+use Rattle.coding.proofs.put_slice.Reads as put_slice_reads
+use Rattle.coding.specs.contracts.write_var as write_var
+use Rattle.coding.proofs.write_var.Reads as write_var_reads
 
 -- ---- what settles an answer, for every crate
 
@@ -69,92 +69,92 @@ one_written w old x y b d p q i = (wrote_one x y _ p.says q.says i, (p.leaves �
 
 -- ---- refusals and integers
 
-number_once : Once number.ended number-reads.Post (λ κs x s. x)
+number_once : Once number.ended number_reads.Post (λ κs x s. x)
 unfolding Once
 number_once κs a x y s t p q = p ∙ sym q
 
-from_u32_once : Once from-u32.ended from-u32-reads.Post (λ κs x s. x)
+from_u32_once : Once from_u32.ended from_u32_reads.Post (λ κs x s. x)
 unfolding Once
 from_u32_once κs a x y s t p q = ap (λ (n : ℕ). record { 0 = n }) (p ∙ sym q)
 
-from_u64_once : Once from-u64.ended from-u64-reads.Post (λ κs x s. x)
+from_u64_once : Once from_u64.ended from_u64_reads.Post (λ κs x s. x)
 unfolding Once
 from_u64_once κs a x y s t p q = made_one x y _ p q
 
-into_inner_once : Once into-inner.ended into-inner-reads.Post (λ κs x s. x)
+into_inner_once : Once into_inner.ended into_inner_reads.Post (λ κs x s. x)
 unfolding Once
 into_inner_once κs a x y s t p q = p ∙ sym q
 
-size_once : Once size.ended size-reads.Post (λ κs x s. x)
+size_once : Once size.ended size_reads.Post (λ κs x s. x)
 unfolding Once
 size_once κs a x y s t p q = sized_one x y _ p q
 
-encode_once : Once {B = Wrote × List ℕ} encode.ended encode-reads.Post (λ κs x s. (x, s.1.0.now))
+encode_once : Once {B = Wrote × List ℕ} encode.ended encode_reads.Post (λ κs x s. (x, s.1.0.now))
 unfolding Once
 encode_once κs a x y s t p q = one_written _ _ x y _ _ p q
 
 -- ---- reads
 
-get_u8_once : Once get-u8.ended get-u8-reads.Post (λ κs x s. x)
+get_u8_once : Once get_u8.ended get_u8_reads.Post (λ κs x s. x)
 unfolding Once
 get_u8_once κs a x y s t p q = u8_one x y _ p q
 
-get_u16_once : Once get-u16.ended get-u16-reads.Post (λ κs x s. x)
+get_u16_once : Once get_u16.ended get_u16_reads.Post (λ κs x s. x)
 unfolding Once
 get_u16_once κs a x y s t p q = u16_one x y _ p q
 
-get_u32_once : Once get-u32.ended get-u32-reads.Post (λ κs x s. x)
+get_u32_once : Once get_u32.ended get_u32_reads.Post (λ κs x s. x)
 unfolding Once
 get_u32_once κs a x y s t p q = u32_one x y _ p q
 
-get_u64_once : Once get-u64.ended get-u64-reads.Post (λ κs x s. x)
+get_u64_once : Once get_u64.ended get_u64_reads.Post (λ κs x s. x)
 unfolding Once
 get_u64_once κs a x y s t p q = u64_one x y _ p q
 
-get_var_once : Once get-var.ended get-var-reads.Post (λ κs x s. x)
+get_var_once : Once get_var.ended get_var_reads.Post (λ κs x s. x)
 unfolding Once
 get_var_once κs a x y s t p q = var_one x y _ p q
 
-take_once : Once take.ended take-reads.Post (λ κs x s. x)
+take_once : Once take.ended take_reads.Post (λ κs x s. x)
 unfolding Once
 take_once κs a x y s t p q = place_one x y _ p q
 
-part_once : Once part.ended part-reads.Post (λ κs x s. seen x)
+part_once : Once part.ended part_reads.Post (λ κs x s. seen x)
 unfolding Once
 part_once κs a x y s t p q = one_part _ x y _ _ p q
 
 -- and so the whole reference is settled
-part_whole : Once part.ended part-reads.Post (λ κs x s. x)
+part_whole : Once part.ended part_reads.Post (λ κs x s. x)
 unfolding Once
 part_whole κs a x y s t p q i =
     record { ref_ptr = ((p.block ∙ sym q.block) i, (p.offset ∙ sym q.offset) i); now = (p.bytes ∙ sym q.bytes) i }
 
 -- ---- puts
 
-put_num_once : Once {B = ℕ × List ℕ} put-num.ended put-num-reads.Post (λ κs x s. (x, s.0.now))
+put_num_once : Once {B = ℕ × List ℕ} put_num.ended put_num_reads.Post (λ κs x s. (x, s.0.now))
 unfolding Once
 put_num_once κs a x y s t p q = one_put _ _ _ x y _ _ p q
 
-put_u8_once : Once {B = ℕ × List ℕ} put-u8.ended put-u8-reads.Post (λ κs x s. (x, s.0.now))
+put_u8_once : Once {B = ℕ × List ℕ} put_u8.ended put_u8_reads.Post (λ κs x s. (x, s.0.now))
 unfolding Once
 put_u8_once κs a x y s t p q = one_put _ _ _ x y _ _ p q
 
-put_u16_once : Once {B = ℕ × List ℕ} put-u16.ended put-u16-reads.Post (λ κs x s. (x, s.0.now))
+put_u16_once : Once {B = ℕ × List ℕ} put_u16.ended put_u16_reads.Post (λ κs x s. (x, s.0.now))
 unfolding Once
 put_u16_once κs a x y s t p q = one_put _ _ _ x y _ _ p q
 
-put_u32_once : Once {B = ℕ × List ℕ} put-u32.ended put-u32-reads.Post (λ κs x s. (x, s.0.now))
+put_u32_once : Once {B = ℕ × List ℕ} put_u32.ended put_u32_reads.Post (λ κs x s. (x, s.0.now))
 unfolding Once
 put_u32_once κs a x y s t p q = one_put _ _ _ x y _ _ p q
 
-put_u64_once : Once {B = ℕ × List ℕ} put-u64.ended put-u64-reads.Post (λ κs x s. (x, s.0.now))
+put_u64_once : Once {B = ℕ × List ℕ} put_u64.ended put_u64_reads.Post (λ κs x s. (x, s.0.now))
 unfolding Once
 put_u64_once κs a x y s t p q = one_put _ _ _ x y _ _ p q
 
-put_slice_once : Once {B = ℕ × List ℕ} put-slice.ended put-slice-reads.Post (λ κs x s. (x, s.0.now))
+put_slice_once : Once {B = ℕ × List ℕ} put_slice.ended put_slice_reads.Post (λ κs x s. (x, s.0.now))
 unfolding Once
 put_slice_once κs a x y s t p q = one_put _ _ _ x y _ _ p q
 
-write_var_once : Once {B = ℕ × List ℕ} write-var.ended write-var-reads.Post (λ κs x s. (x, s.0.now))
+write_var_once : Once {B = ℕ × List ℕ} write_var.ended write_var_reads.Post (λ κs x s. (x, s.0.now))
 unfolding Once
 write_var_once κs a x y s t p q = one_put _ _ _ x y _ _ p q

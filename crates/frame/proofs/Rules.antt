@@ -11,7 +11,7 @@ use Rattle.coding.specs.declared.Place.{Place}
 use Rattle.coding.specs.declared.varint.VarInt.{VarInt}
 use Rattle.coding.specs.declared.refusal.Refusal.{Refusal}
 use Rattle.coding.specs.declared.VarRead.{VarRead}
-use Rattle.coding.specs.declared.VarRead.TheVariants as var-read
+use Rattle.coding.specs.declared.VarRead.TheVariants as var_read
 use Rattle.coding.specs.declared.PlaceRead.{PlaceRead}
 use Rattle.coding.specs.declared.PlaceRead.TheVariants as place_read
 use Rattle.coding.proofs.Rules.{steps}
@@ -78,11 +78,11 @@ module _ (s : List ℕ) (at : ℕ) (seen : List Value) (next : Value → ℕ →
 
   module _ (x : Read Said) (b c : Bool) (same : c ≡ b) where
     module _ (r : VarRead) (e : var_of r ≡ var_if c s at) where
-      pub var_if_on : (v : VarInt) (n : ℕ) → r ≡ var-read.Var v n → x ≡ next (num v.0) n → x ≡ field_at (if b then var else const 0) s at seen next
+      pub var_if_on : (v : VarInt) (n : ℕ) → r ≡ var_read.Var v n → x ≡ next (num v.0) n → x ≡ field_at (if b then var else const 0) s at seen next
       unfolding and_then var_of
       var_if_on v n q h = rw (var_if_law b, ← same, ← e, q) h
 
-      pub var_if_cut : r ≡ var-read.End → x ≡ refuse 10 → x ≡ field_at (if b then var else const 0) s at seen next
+      pub var_if_cut : r ≡ var_read.End → x ≡ refuse 10 → x ≡ field_at (if b then var else const 0) s at seen next
       unfolding and_then var_of
       var_if_cut q h = rw (var_if_law b, ← same, ← e, q) h
 

@@ -4,92 +4,92 @@ use Rattle.coding.specs.Once.{Once}
 use Rattle.coding.proofs.Onces.{seen, one_part}
 use Rattle.packet.proofs.Inverse.{kind_one, decoded_one, len_one, space_one, split_one, step_one}
 use Rattle.packet.specs.contracts.header.LongHeaderType.from_byte as from_byte
-use Rattle.packet.proofs.header.LongHeaderType.from_byte.Reads as from-byte-reads
+use Rattle.packet.proofs.header.LongHeaderType.from_byte.Reads as from_byte_reads
 use Rattle.packet.specs.contracts.header.LongHeaderType.bits as bits
-use Rattle.packet.proofs.header.LongHeaderType.bits.Reads as bits-reads
-use Rattle.packet.specs.contracts.header.Decoded.dst_cid as dst-cid
-use Rattle.packet.proofs.header.Decoded.dst_cid.Reads as dst-cid-reads
-use Rattle.packet.specs.contracts.header.Decoded.payload_len as payload-len
-use Rattle.packet.proofs.header.Decoded.payload_len.Reads as payload-len-reads
+use Rattle.packet.proofs.header.LongHeaderType.bits.Reads as bits_reads
+use Rattle.packet.specs.contracts.header.Decoded.dst_cid as dst_cid
+use Rattle.packet.proofs.header.Decoded.dst_cid.Reads as dst_cid_reads
+use Rattle.packet.specs.contracts.header.Decoded.payload_len as payload_len
+use Rattle.packet.proofs.header.Decoded.payload_len.Reads as payload_len_reads
 use Rattle.packet.specs.contracts.header.Decoded.space as space
-use Rattle.packet.proofs.header.Decoded.space.Reads as space-reads
-use Rattle.packet.specs.contracts.header.Decoded.is_initial as is-initial
-use Rattle.packet.proofs.header.Decoded.is_initial.Reads as is-initial-reads
-use Rattle.packet.specs.contracts.header.Decoded.is_0rtt as is-0rtt
-use Rattle.packet.proofs.header.Decoded.is_0rtt.Reads as is-0rtt-reads
-use Rattle.packet.specs.contracts.header.Decoded.has_long_header as has-long-header
-use Rattle.packet.proofs.header.Decoded.has_long_header.Reads as has-long-header-reads
+use Rattle.packet.proofs.header.Decoded.space.Reads as space_reads
+use Rattle.packet.specs.contracts.header.Decoded.is_initial as is_initial
+use Rattle.packet.proofs.header.Decoded.is_initial.Reads as is_initial_reads
+use Rattle.packet.specs.contracts.header.Decoded.is_0rtt as is_0rtt
+use Rattle.packet.proofs.header.Decoded.is_0rtt.Reads as is_0rtt_reads
+use Rattle.packet.specs.contracts.header.Decoded.has_long_header as has_long_header
+use Rattle.packet.proofs.header.Decoded.has_long_header.Reads as has_long_header_reads
 use Rattle.packet.specs.contracts.protected.decode as decode
-use Rattle.packet.proofs.protected.decode.Reads as decode-reads
+use Rattle.packet.proofs.protected.decode.Reads as decode_reads
 use Rattle.packet.specs.contracts.partial.split as split
-use Rattle.packet.proofs.partial.split.Reads as split-reads
+use Rattle.packet.proofs.partial.split.Reads as split_reads
 use Rattle.packet.specs.contracts.partial.PartialDecode.len as len
-use Rattle.packet.proofs.partial.PartialDecode.len.Reads as len-reads
-use Rattle.packet.specs.contracts.partial.PartialDecode.«data» as data-part
-use Rattle.packet.proofs.partial.PartialDecode.«data».Reads as data_Reads
+use Rattle.packet.proofs.partial.PartialDecode.len.Reads as len_reads
+use Rattle.packet.specs.contracts.partial.PartialDecode.«data» as data_part
+use Rattle.packet.proofs.partial.PartialDecode.«data».Reads as data_reads
 use Rattle.packet.specs.contracts.partial.PartialDecode.rest as rest
-use Rattle.packet.proofs.partial.PartialDecode.rest.Reads as rest-reads
+use Rattle.packet.proofs.partial.PartialDecode.rest.Reads as rest_reads
 use Rattle.packet.specs.contracts.partial.PartialDecode.token as token
-use Rattle.packet.proofs.partial.PartialDecode.token.Reads as token-reads
+use Rattle.packet.proofs.partial.PartialDecode.token.Reads as token_reads
 use Rattle.packet.specs.contracts.walk.step as step
-use Rattle.packet.proofs.walk.step.Reads as step-reads
+use Rattle.packet.proofs.walk.step.Reads as step_reads
 
-from_byte_once : Once from_byte.ended from-byte-reads.Post (λ κs x s. x)
+from_byte_once : Once from_byte.ended from_byte_reads.Post (λ κs x s. x)
 unfolding Once
 from_byte_once κs a x y s t p q = kind_one x y _ p q
 
-bits_once : Once bits.ended bits-reads.Post (λ κs x s. x)
+bits_once : Once bits.ended bits_reads.Post (λ κs x s. x)
 unfolding Once
 bits_once κs a x y s t p q = p.0 ∙ sym q.0
 
-dst_cid_once : Once dst-cid.ended dst-cid-reads.Post (λ κs x s. x)
+dst_cid_once : Once dst_cid.ended dst_cid_reads.Post (λ κs x s. x)
 unfolding Once
 dst_cid_once κs a x y s t p q = p ∙ sym q
 
-payload_len_once : Once payload-len.ended payload-len-reads.Post (λ κs x s. x)
+payload_len_once : Once payload_len.ended payload_len_reads.Post (λ κs x s. x)
 unfolding Once
 payload_len_once κs a x y s t p q = len_one x y _ p q
 
-space_once : Once space.ended space-reads.Post (λ κs x s. x)
+space_once : Once space.ended space_reads.Post (λ κs x s. x)
 unfolding Once
 space_once κs a x y s t p q = space_one x y _ p q
 
-is_initial_once : Once is-initial.ended is-initial-reads.Post (λ κs x s. x)
+is_initial_once : Once is_initial.ended is_initial_reads.Post (λ κs x s. x)
 unfolding Once
 is_initial_once κs a x y s t p q = p ∙ sym q
 
-is_0rtt_once : Once is-0rtt.ended is-0rtt-reads.Post (λ κs x s. x)
+is_0rtt_once : Once is_0rtt.ended is_0rtt_reads.Post (λ κs x s. x)
 unfolding Once
 is_0rtt_once κs a x y s t p q = p ∙ sym q
 
-has_long_header_once : Once has-long-header.ended has-long-header-reads.Post (λ κs x s. x)
+has_long_header_once : Once has_long_header.ended has_long_header_reads.Post (λ κs x s. x)
 unfolding Once
 has_long_header_once κs a x y s t p q = p ∙ sym q
 
-decode_once : Once decode.ended decode-reads.Post (λ κs x s. x)
+decode_once : Once decode.ended decode_reads.Post (λ κs x s. x)
 unfolding Once
 decode_once κs a x y s t p q = decoded_one x y _ p q
 
-split_once : Once split.ended split-reads.Post (λ κs x s. x)
+split_once : Once split.ended split_reads.Post (λ κs x s. x)
 unfolding Once
 split_once κs a x y s t p q = split_one x y _ p q
 
-len_once : Once len.ended len-reads.Post (λ κs x s. x)
+len_once : Once len.ended len_reads.Post (λ κs x s. x)
 unfolding Once
 len_once κs a x y s t p q = p ∙ sym q
 
-data_once : Once data-part.ended data_Reads.Post (λ κs x s. seen x)
+data_once : Once data_part.ended data_reads.Post (λ κs x s. seen x)
 unfolding Once
 data_once κs a x y s t p q = one_part _ x y _ _ p q
 
-rest_once : Once rest.ended rest-reads.Post (λ κs x s. seen x)
+rest_once : Once rest.ended rest_reads.Post (λ κs x s. seen x)
 unfolding Once
 rest_once κs a x y s t p q = one_part _ x y _ _ p q
 
-token_once : Once token.ended token-reads.Post (λ κs x s. seen x)
+token_once : Once token.ended token_reads.Post (λ κs x s. seen x)
 unfolding Once
 token_once κs a x y s t p q = one_part _ x y _ _ p q
 
-step_once : Once step.ended step-reads.Post (λ κs x s. x)
+step_once : Once step.ended step_reads.Post (λ κs x s. x)
 unfolding Once
 step_once κs a x y s t p q = step_one x y _ p q

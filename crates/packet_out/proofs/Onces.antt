@@ -7,26 +7,26 @@ use Rattle.packet_out.specs.declared.Encoded.{Encoded}
 use Rattle.packet_out.specs.declared.LengthSet.{LengthSet}
 use Rattle.packet_out.proofs.Inverse.{cut_one, encoded_one, set_one}
 use Rattle.packet_out.specs.contracts.header.Header.number as number
-use Rattle.packet_out.proofs.header.Header.number.Reads as number-reads
+use Rattle.packet_out.proofs.header.Header.number.Reads as number_reads
 use Rattle.packet_out.specs.contracts.encode as encode
-use Rattle.packet_out.proofs.encode.Reads as encode-reads
-use Rattle.packet_out.specs.contracts.encode_for as encode-for
-use Rattle.packet_out.proofs.encode_for.Reads as encode-for-reads
-use Rattle.packet_out.specs.contracts.set_length as set-length
-use Rattle.packet_out.proofs.set_length.Reads as set-length-reads
+use Rattle.packet_out.proofs.encode.Reads as encode_reads
+use Rattle.packet_out.specs.contracts.encode_for as encode_for
+use Rattle.packet_out.proofs.encode_for.Reads as encode_for_reads
+use Rattle.packet_out.specs.contracts.set_length as set_length
+use Rattle.packet_out.proofs.set_length.Reads as set_length_reads
 
-number_once : Once number.ended number-reads.Post (λ κs x s. x)
+number_once : Once number.ended number_reads.Post (λ κs x s. x)
 unfolding Once
 number_once κs a x y s t p q = cut_one x y _ p q
 
-encode_once : Once {B = Encoded × List ℕ} encode.ended encode-reads.Post (λ κs x s. (x, s.1.1.1.1.0.now))
+encode_once : Once {B = Encoded × List ℕ} encode.ended encode_reads.Post (λ κs x s. (x, s.1.1.1.1.0.now))
 unfolding Once
 encode_once κs a x y s t p q i = (encoded_one x y _ p.says q.says i, (p.leaves ∙ sym q.leaves) i)
 
-encode_for_once : Once {B = Encoded × List ℕ} encode-for.ended encode-for-reads.Post (λ κs x s. (x, s.1.1.1.1.1.0.now))
+encode_for_once : Once {B = Encoded × List ℕ} encode_for.ended encode_for_reads.Post (λ κs x s. (x, s.1.1.1.1.1.0.now))
 unfolding Once
 encode_for_once κs a x y s t p q i = (encoded_one x y _ p.says q.says i, (p.leaves ∙ sym q.leaves) i)
 
-set_length_once : Once {B = LengthSet × List ℕ} set-length.ended set-length-reads.Post (λ κs x s. (x, s.1.1.1.0.now))
+set_length_once : Once {B = LengthSet × List ℕ} set_length.ended set_length_reads.Post (λ κs x s. (x, s.1.1.1.0.now))
 unfolding Once
 set_length_once κs a x y s t p q i = (set_one x y _ p.says q.says i, (p.leaves ∙ sym q.leaves) i)

@@ -13,7 +13,7 @@ use Rattle.shared.specs.declared.cid.CidAnswer.{CidAnswer}
 use Rattle.shared.specs.declared.cid.CidAnswer.TheVariants as cid
 use Rattle.shared.specs.declared.codepoint.EcnCodepoint.TheVariants as ecn
 use Rattle.shared.specs.declared.codepoint.EcnRead.{EcnRead}
-use Rattle.shared.specs.declared.codepoint.EcnRead.TheVariants as ecn-read
+use Rattle.shared.specs.declared.codepoint.EcnRead.TheVariants as ecn_read
 use Rattle.shared.specs.declared.kinds.Side.{Side}
 use Rattle.shared.specs.declared.kinds.Side.TheVariants as side
 use Rattle.shared.specs.declared.kinds.Dir.{Dir}
@@ -43,14 +43,14 @@ ecn_one = one_by ecn_read_of read_by back
   where
     read_by : ℕ → EcnRead
     read_by n =
-        cond (eqb n 0b00) ecn-read.Nothing
-        (ecn-read.Ecn (cond (eqb n 0b10) ecn.Ect0 (cond (eqb n 0b01) ecn.Ect1 ecn.Ce)))
+        cond (eqb n 0b00) ecn_read.Nothing
+        (ecn_read.Ecn (cond (eqb n 0b10) ecn.Ect0 (cond (eqb n 0b01) ecn.Ect1 ecn.Ce)))
 
     back : (r : EcnRead) → read_by (ecn_read_of r) ≡ r
-    back (ecn-read.Ecn ecn.Ect0) = refl
-    back (ecn-read.Ecn ecn.Ect1) = refl
-    back (ecn-read.Ecn ecn.Ce) = refl
-    back ecn-read.Nothing = refl
+    back (ecn_read.Ecn ecn.Ect0) = refl
+    back (ecn_read.Ecn ecn.Ect1) = refl
+    back (ecn_read.Ecn ecn.Ce) = refl
+    back ecn_read.Nothing = refl
 
 pub side_one : (x y : Side) (n : ℕ) → side_bit x ≡ n → side_bit y ≡ n → x ≡ y
 side_one = one_by side_bit (λ n. cond (eqb n 0) side.Client side.Server) back

@@ -9,7 +9,7 @@ use Rattle.shared.specs.declared.cid.CidAnswer.TheVariants as cid
 use Rattle.shared.specs.declared.codepoint.EcnCodepoint.{EcnCodepoint}
 use Rattle.shared.specs.declared.codepoint.EcnCodepoint.TheVariants as ecn
 use Rattle.shared.specs.declared.codepoint.EcnRead.{EcnRead}
-use Rattle.shared.specs.declared.codepoint.EcnRead.TheVariants as ecn-read
+use Rattle.shared.specs.declared.codepoint.EcnRead.TheVariants as ecn_read
 use Rattle.shared.specs.declared.kinds.Side.{Side}
 use Rattle.shared.specs.declared.kinds.Side.TheVariants as side
 use Rattle.shared.specs.declared.kinds.Dir.{Dir}
@@ -30,8 +30,8 @@ ecn_of ecn.Ect1 = 0b01
 ecn_of ecn.Ce = 0b11
 
 abbrev pub ecn_read_of : EcnRead → ℕ
-ecn_read_of (ecn-read.Ecn e) = ecn_of e
-ecn_read_of ecn-read.Nothing = 0b00
+ecn_read_of (ecn_read.Ecn e) = ecn_of e
+ecn_read_of ecn_read.Nothing = 0b00
 
 abbrev pub side_bit : Side → ℕ
 side_bit side.Client = 0

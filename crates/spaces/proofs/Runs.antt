@@ -10,7 +10,7 @@ use Rattle.number.specs.Cutting.{cut, window_of, is_cut, bytes_for, cut_to, cut_
 use Rattle.number.specs.Expanding.{decode_a3, expanded}
 use Rattle.number.specs.Ends.{none, at, Ends, fresh_ends, base_of, expected_of, larger_of, Packet, refused, done, send_end, send_with, send_by, acknowledge_by, read_by}
 use Rattle.number.specs.Line.{World, Reach, AsSent}
-use Rattle.number.specs.Line.Reach.{next as one-next}
+use Rattle.number.specs.Line.Reach.{next as one_next}
 use Rattle.number.proofs.Calls.{acknowledge_14, acknowledge_unsent}
 use Rattle.number.proofs.BothWays.{Shown, FurtherOn, runs_rightly, runs_misread, runs_shorter}
 use Rattle.packet.specs.declared.header.SpaceId.{SpaceId}
