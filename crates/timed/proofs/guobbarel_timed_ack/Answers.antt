@@ -1,0 +1,6 @@
+use Rattle.timed.proofs.Laws.{so}
+use borrow.Author.Rules.{rules}
+use Rattle.timed.proofs.guobbarel_timed_ack.Goals as goal
+
+pub returns : goal.returns
+returns c = so c.ack.ensures c.written.ensures

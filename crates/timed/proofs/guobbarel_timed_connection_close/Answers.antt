@@ -1,0 +1,6 @@
+use Rattle.timed.proofs.Laws.{so}
+use borrow.Author.Rules.{rules}
+use Rattle.timed.proofs.guobbarel_timed_connection_close.Goals as goal
+
+pub returns : goal.returns
+returns c = so c.connection_close.ensures c.written.ensures

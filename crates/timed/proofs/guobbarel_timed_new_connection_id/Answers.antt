@@ -1,0 +1,6 @@
+use Rattle.timed.proofs.Laws.{so}
+use borrow.Author.Rules.{rules}
+use Rattle.timed.proofs.guobbarel_timed_new_connection_id.Goals as goal
+
+pub returns : goal.returns
+returns c = so c.new_connection_id.ensures c.written.ensures

@@ -1,0 +1,16 @@
+use Prim.Native.Nat.{◌-◌, ◌≤◌}
+use mathlib.Core.Path.{◌≡◌, sym, ◌∙◌}
+use native.Mathlib.Omega.{arith}
+use borrow.Author.Rules.{rules}
+use lib.ListN.{length}
+use Rattle.coding.specs.Said.{var_of}
+use Rattle.coding.proofs.Laws.{var_inside}
+use Rattle.timed.specs.Timed.{gathered_from, gathered, vars_from, vars_of}
+use Rattle.timed.proofs.Laws.{start, vars_end, vars_cut, vars_on}
+use Rattle.timed.proofs.guobbarel_timed_read_vars.Given as goal
+
+abbrev pub invariant-loop-at : goal.invariant-loop-at
+invariant-loop-at l = (gathered_from (vars_from (length l.bytes - l.count) l.bytes l.at) l.count l.mixed ≡ gathered (vars_of l.bytes)) × ((l.count ≤ l.at) × (l.at ≤ length l.bytes))
+
+abbrev pub decreases-loop-at : goal.decreases-loop-at
+decreases-loop-at l = length l.bytes - l.at

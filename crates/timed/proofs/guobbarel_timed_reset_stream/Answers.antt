@@ -1,0 +1,6 @@
+use Rattle.timed.proofs.Laws.{so}
+use borrow.Author.Rules.{rules}
+use Rattle.timed.proofs.guobbarel_timed_reset_stream.Goals as goal
+
+pub returns : goal.returns
+returns c = so c.reset_stream.ensures c.written.ensures
