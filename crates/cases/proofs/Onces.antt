@@ -164,10 +164,10 @@ spill_once : Once spill.ended spill-reads.Post (λ κs x s. x)
 unfolding Once
 spill_once κs a x y s t p q = p ∙ sym q
 
-end_line_once : Once {B = ℕ × List ℕ} end_line.ended end-line-reads.Post (λ κs x s. (x, s.0.now))
+end_line_once : Once {B = ℕ × List ℕ} end_line.ended end-line-reads.Post (λ κs x s. (x, s.1.0.now))
 unfolding Once
 end_line_once κs a x y s t p q i = ((p.says ∙ sym q.says) i, (p.leaves ∙ sym q.leaves) i)
 
-end_once : Once {B = ℕ × List ℕ} end.ended end_reads.Post (λ κs x s. (x, s.0.now))
+end_once : Once {B = ℕ × List ℕ} end.ended end_reads.Post (λ κs x s. (x, s.1.0.now))
 unfolding Once
 end_once κs a x y s t p q = one_text _ _ _ x y _ _ p q

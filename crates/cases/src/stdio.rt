@@ -10,7 +10,7 @@ ghost use Rattle.cases.specs.Stdio.{Zeros, fields_in, kept, LineEnded};
 use crate::record::Turn;
 use crate::{line, record};
 use coding::{Place, part, put_slice};
-use libc::{STDIN_FILENO, STDOUT_FILENO};
+use std::io::{Print, Read, Stdin, Stdout};
 
 // More records than any run has: a proved loop ends.
 pub const MOST: u64 = 1_000_000_000_000_000;
@@ -29,59 +29,77 @@ pub fn lines() -> [u8; 400_000]
     [0; 400_000]
 }
 
+// Reads until buf is full, the input ends or a read fails, and answers how many bytes were read.
+fn read_full(mut from: Stdin, buf: &mut [u8]) -> usize
+    ensures { result ≤ length buf.new }
+{
+    let mut n = 0;
+    while n < buf.len() {
+        let Ok(more) = from.read(&mut buf[n..]) else {
+            return n;
+        };
+        if more == 0 {
+            return n;
+        }
+        n += more;
+    }
+    n
+}
+
 // Reads a record's fields into buf.
-fn fields(op: u8, len: usize, buf: &mut [u8]) -> Turn
+fn fields(from: Stdin, op: u8, len: usize, buf: &mut [u8]) -> Turn
     ensures { fields_in (turn_of result) ≤ length buf.old }
 {
     if buf.len() < len {
         return Turn::Cut;
     }
-    if io::read_full(STDIN_FILENO, &mut buf[..len]) < len {
+    if read_full(from, &mut buf[..len]) < len {
         return Turn::Cut;
     }
     Turn::Record(op, len)
 }
 
 // Reads the next record: its first 4 bytes, then its fields, which have room in buf. What is read is in no contract.
-pub fn next(buf: &mut [u8]) -> Turn
+pub fn next(from: Stdin, buf: &mut [u8]) -> Turn
     ensures { fields_in (turn_of result) ≤ length buf.old }
 {
     let mut first = [0u8; 4];
-    let n = io::read_full(STDIN_FILENO, &mut first);
+    let n = read_full(from, &mut first);
     match record::head(&first[..n]) {
-        Turn::Record(op, len) => fields(op, len, buf),
+        Turn::Record(op, len) => fields(from, op, len, buf),
         Turn::End => Turn::End,
         Turn::Cut => Turn::Cut,
     }
 }
 
-fn write_out(out: &[u8], len: usize) {
-    io::write_all(STDOUT_FILENO, part(out, Place { start: 0, len }));
+// What cannot be written is left out.
+fn write_out(to: Stdout, out: &[u8], len: usize) {
+    let _ = to.write_all(part(out, Place { start: 0, len }));
 }
 
 // Writes out what stands there once it is much, also within a line, and answers the next place.
-pub fn spill(out: &[u8], at: usize) -> usize
+pub fn spill(to: Stdout, out: &[u8], at: usize) -> usize
     ensures { result ≡ kept at }
 {
     if at < 100_000 {
         return at;
     }
-    write_out(out, at);
+    write_out(to, out, at);
     0
 }
 
-pub fn end_line(out: &mut [u8], at: usize) -> usize
+pub fn end_line(to: Stdout, out: &mut [u8], at: usize) -> usize
     ensures { LineEnded out.old at result out.new }
 {
     let p = put_slice(out, at, b"\n");
-    spill(out, p)
+    spill(to, out, p)
 }
 
 // Writes out what is left and the last line: how the input ended, and how many records it had.
-pub fn end(out: &mut [u8], at: usize, t: Turn, count: u64) -> usize
+pub fn end(to: Stdout, out: &mut [u8], at: usize, t: Turn, count: u64) -> usize
     ensures { PutAll (end_line (turn_of t) count) out.old at result out.new }
 {
     let p = line::end(out, at, t, count);
-    write_out(out, p);
+    write_out(to, out, p);
     p
 }

@@ -1,0 +1,11 @@
+use Rattle.cases.specs.Records.{number_in}
+use Rattle.coding.proofs.Rules.{steps}
+use Rattle.cases.proofs.record.number.Goals as goal
+
+pub returns-in_default : goal.returns-in_default
+unfolding number_in
+returns-in_default c = search steps depth 40 fits 4000
+
+pub returns : goal.returns
+unfolding number_in
+returns c = search steps depth 40 fits 4000
