@@ -1,8 +1,11 @@
 // Prints the packets of one datagram, read on standard input (document 01, "The dump program").
 #![tactic(auto)]
 
+ghost use Rattle.std.specs.Prelude.{◌≤◌, length, IfOk};
+
 use coding::{Place, Wrote};
-use libc::{STDIN_FILENO, STDOUT_FILENO};
+use std::io;
+use std::io::{Print, Read, Stdin};
 
 // One byte more than the longest datagram, which is enough to know that there is more.
 const DATAGRAM: usize = 65528;
@@ -10,13 +13,29 @@ const DATAGRAM: usize = 65528;
 // Room for the text of every datagram of that length: four times as many bytes, and 64.
 const TEXT: usize = 262176;
 
-fn main() {
+// Reads until buf is full or the input ends, and answers how many bytes were read.
+fn read_full(mut from: Stdin, buf: &mut [u8]) -> io::Result<usize>
+    ensures { IfOk result (λ n. n ≤ length buf.new) }
+{
+    let mut n = 0;
+    while n < buf.len() {
+        let more = from.read(&mut buf[n..])?;
+        if more == 0 {
+            return Ok(n);
+        }
+        n += more;
+    }
+    Ok(n)
+}
+
+fn main(rt: HostRuntime) -> io::Result<()> {
     let mut datagram = [0u8; DATAGRAM];
-    let n = io::read_full(STDIN_FILENO, &mut datagram);
+    let n = read_full(rt.stdin(), &mut datagram)?;
     let mut text = [0u8; TEXT];
     let wrote = dump_text::dump(&datagram[..n], &mut text);
     let Wrote::Len(len) = wrote else {
-        return;
+        return Ok(());
     };
-    io::write_all(STDOUT_FILENO, coding::part(&text, Place { start: 0, len }));
+    rt.stdout()
+        .write_all(coding::part(&text, Place { start: 0, len }))
 }

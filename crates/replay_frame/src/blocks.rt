@@ -7,9 +7,10 @@ use cases::record::Numbers;
 use coding::{Place, part, put_slice};
 use ecn::{EcnCounts, Raise};
 use shared::{EcnCodepoint, EcnRead, FullNumber};
+use std::io::Stdout;
 
 // The place past the blocks, and the ranges that they hold.
-pub(crate) fn ackscan(ns: Numbers, b: &[u8], out: &mut [u8], at: usize) -> usize {
+pub(crate) fn ackscan(to: Stdout, ns: Numbers, b: &[u8], out: &mut [u8], at: usize) -> usize {
     let start = ns.n0 as usize;
     let largest = FullNumber(ns.n1);
     match ack::scan_ack_blocks(b, start, largest, ns.n2) {
@@ -17,7 +18,7 @@ pub(crate) fn ackscan(ns: Numbers, b: &[u8], out: &mut [u8], at: usize) -> usize
         Scanned::To(next) => {
             let p = line::say(out, at, Answer::One(next as u64));
             let len = left(next, start);
-            ranges(largest, part(b, Place { start, len }), out, p)
+            ranges(to, largest, part(b, Place { start, len }), out, p)
         }
     }
 }
@@ -29,7 +30,13 @@ fn range(low: FullNumber, high: FullNumber, out: &mut [u8], at: usize) -> usize 
 }
 
 // All ranges until the bytes end; each takes a byte.
-pub(crate) fn ranges(largest: FullNumber, blocks: &[u8], out: &mut [u8], at: usize) -> usize {
+pub(crate) fn ranges(
+    to: Stdout,
+    largest: FullNumber,
+    blocks: &[u8],
+    out: &mut [u8],
+    at: usize,
+) -> usize {
     let mut p = at;
     let mut from = 0;
     let mut top = largest;
@@ -41,7 +48,7 @@ pub(crate) fn ranges(largest: FullNumber, blocks: &[u8], out: &mut [u8], at: usi
             return p;
         };
         p = range(low, high, out, p);
-        p = crate::spill(out, p);
+        p = crate::spill(to, out, p);
         from = t.next;
         top = t.largest;
         turns += 1;
@@ -72,7 +79,7 @@ fn stepped(answer: AckStep, largest: FullNumber, bytes: usize, out: &mut [u8], a
 
 // Each step until the bytes end or one is refused. What the n-th says is asked of one AckIter that has made the n before it, how
 // the reader then stands of the step that it is made of.
-pub(crate) fn ackiter(largest: u64, b: &[u8], out: &mut [u8], at: usize) -> usize {
+pub(crate) fn ackiter(to: Stdout, largest: u64, b: &[u8], out: &mut [u8], at: usize) -> usize {
     let mut p = at;
     let mut from = 0;
     let mut top = FullNumber(largest);
@@ -81,7 +88,7 @@ pub(crate) fn ackiter(largest: u64, b: &[u8], out: &mut [u8], at: usize) -> usiz
         let answer = ack_iter::nth_range(FullNumber(largest), b, turns);
         let t = ack::ack_step(b, from, top);
         p = stepped(answer, t.largest, left(b.len(), t.next), out, p);
-        p = crate::spill(out, p);
+        p = crate::spill(to, out, p);
         let AckStep::Range(_, _) = answer else {
             return p;
         };

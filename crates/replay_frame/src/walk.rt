@@ -5,6 +5,7 @@ use cases::line;
 use cases::line::Answer;
 use coding::Refusal;
 use frame::{FrameRead, FrameStep};
+use std::io::Stdout;
 
 // What a step of the walk says: the texts of its start and of itself, and where the next step is, where there is one; and what
 // the first says of the whole payload.
@@ -70,7 +71,7 @@ fn and_met(payload: &[u8], m: Met, out: &mut [u8], at: usize) -> usize {
 }
 
 // Each frame until the payload ends or one is refused; each has a byte.
-fn each(payload: &[u8], out: &mut [u8], at: usize) -> usize {
+fn each(to: Stdout, payload: &[u8], out: &mut [u8], at: usize) -> usize {
     let mut p = at;
     let mut start = 0;
     let mut turns = 0;
@@ -80,19 +81,19 @@ fn each(payload: &[u8], out: &mut [u8], at: usize) -> usize {
         if !m.more {
             return p;
         }
-        p = crate::spill(out, p);
+        p = crate::spill(to, out, p);
         start = m.next;
         turns += 1;
     }
     p
 }
 
-pub(crate) fn frames(payload: &[u8], out: &mut [u8], at: usize) -> usize {
+pub(crate) fn frames(to: Stdout, payload: &[u8], out: &mut [u8], at: usize) -> usize {
     let first = step(payload, 0);
     let whole = first.whole;
     let p = line::say(out, at, whole);
     if let Answer::No(_) = whole {
         return p;
     }
-    each(payload, out, p)
+    each(to, payload, out, p)
 }

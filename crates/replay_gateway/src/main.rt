@@ -26,24 +26,24 @@ fn answer(op: u8, rec: &[u8], work: &mut [u8], out: &mut [u8], at: usize) -> usi
     }
 }
 
-fn run(buf: &mut [u8], work: &mut [u8], out: &mut [u8]) {
+fn run(rt: HostRuntime, buf: &mut [u8], work: &mut [u8], out: &mut [u8]) {
     let mut at = 0;
     let mut count = 0;
     while count < stdio::MOST {
-        let t = stdio::next(buf);
+        let t = stdio::next(rt.stdin(), buf);
         let Turn::Record(op, len) = t else {
-            stdio::end(out, at, t, count);
+            stdio::end(rt.stdout(), out, at, t, count);
             return;
         };
         let p = answer(op, part(buf, Place { start: 0, len }), work, out, at);
-        at = stdio::end_line(out, p);
+        at = stdio::end_line(rt.stdout(), out, p);
         count += 1;
     }
 }
 
-fn main() {
+fn main(rt: HostRuntime) {
     let mut buf = stdio::room();
     let mut work = stdio::room();
     let mut out = stdio::lines();
-    run(&mut buf, &mut work, &mut out);
+    run(rt, &mut buf, &mut work, &mut out);
 }
