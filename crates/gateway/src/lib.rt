@@ -1,6 +1,6 @@
 // The surface that the gateway's host links: seven functions on numbers and byte slices, each over a proved crate. Every
-// argument is checked; an answer is a record by value, its refusal first; a refusal changes no lent byte.
-// include/guobbarel.h says the same to a C compiler, and what a caller owes.
+// argument is checked; an answer is a record by value, its refusal first; a refusal changes no lent byte. `gateway_c` exports
+// them to C; include/guobbarel.h says the same to a C compiler, and what a caller owes.
 #![tactic(auto)]
 
 mod headers; // headers.rt: a header with its Length
@@ -23,8 +23,7 @@ pub use records::{
 
 // The packet at a place of a datagram; the next step is at its end. `local_cid_len` is the length of the CIDs that we hand out,
 // `versions` what we speak.
-#[unsafe(no_mangle)]
-pub extern "C" fn guobbarel_split(
+pub fn guobbarel_split(
     datagram: &[u8],
     at: usize,
     local_cid_len: usize,
@@ -43,8 +42,7 @@ pub extern "C" fn guobbarel_split(
 }
 
 // The sample that the mask of a packet is made of.
-#[unsafe(no_mangle)]
-pub extern "C" fn guobbarel_sample_place(
+pub fn guobbarel_sample_place(
     kind: u8,
     packet: &[u8],
     number_offset: usize,
@@ -58,8 +56,7 @@ pub extern "C" fn guobbarel_sample_place(
 }
 
 // Takes the header protection off a packet where it stands.
-#[unsafe(no_mangle)]
-pub extern "C" fn guobbarel_unmask(
+pub fn guobbarel_unmask(
     kind: u8,
     packet: &mut [u8],
     number_offset: usize,
@@ -84,8 +81,7 @@ pub extern "C" fn guobbarel_unmask(
 }
 
 // The frame at a place of a payload; the next step is at `next`.
-#[unsafe(no_mangle)]
-pub extern "C" fn guobbarel_frame_read(payload: &[u8], at: usize) -> FrameAnswer
+pub fn guobbarel_frame_read(payload: &[u8], at: usize) -> FrameAnswer
     ensures { result ≡ frame_for payload.now at }
 {
     // PADDING comes in runs: it is answered at once, straight into the caller's memory
@@ -96,8 +92,7 @@ pub extern "C" fn guobbarel_frame_read(payload: &[u8], at: usize) -> FrameAnswer
 }
 
 // A step of the number ends, in the space of a packet's kind: 0 send, 1 acknowledge, 2 read, 3 accept.
-#[unsafe(no_mangle)]
-pub extern "C" fn guobbarel_number_step(
+pub fn guobbarel_number_step(
     step: u8,
     kind: u8,
     spaces: NumberSpaces,
@@ -114,8 +109,7 @@ pub extern "C" fn guobbarel_number_step(
 }
 
 // Writes a header from byte 0 of out on, for a payload of `payload_len` bytes to follow it.
-#[unsafe(no_mangle)]
-pub extern "C" fn guobbarel_header_write(
+pub fn guobbarel_header_write(
     header: HeaderGiven,
     dst_cid: &[u8],
     src_cid: &[u8],
@@ -146,8 +140,7 @@ pub extern "C" fn guobbarel_header_write(
 
 // The mask step: header protection over a packet that is encrypted. A number_len of 0 says that there is no number. Answers the
 // refusal.
-#[unsafe(no_mangle)]
-pub extern "C" fn guobbarel_mask(
+pub fn guobbarel_mask(
     header_len: usize,
     number_len: usize,
     has_length: u8,

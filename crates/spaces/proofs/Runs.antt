@@ -93,7 +93,7 @@ runs_all =
     after = runs_shorter.after
 
     heard : Reach after
-    heard = one-next runs_shorter.reach runs_shorter.step
+    heard = one_next runs_shorter.reach runs_shorter.step
 
     says : (s : SpaceId) → (send_by (of (trio after after after).sender s)).says ≡ next128 1
     says id.Initial = runs_shorter.one
