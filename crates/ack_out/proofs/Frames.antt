@@ -18,7 +18,7 @@ use Rattle.coding.specs.declared.refusal.Refusal.{Refusal}
 use Rattle.coding.specs.declared.varint.Sized.{Sized}
 use Rattle.coding.specs.declared.varint.Sized.TheVariants as sized
 use Rattle.frame.specs.Table.{table}
-use Rattle.row_out.specs.Writing.{number, rounds_in, field_bytes, row_bytes, frame_bytes}
+use Rattle.row_out.specs.Writing.{rounds_in, field_bytes, row_bytes, frame_bytes}
 use Rattle.row_out.specs.Limits.{below62, in_frame, limited, word_numbers, frame_out, vars_bytes, vars_out}
 use Rattle.row_out.proofs.Laws.{below_cons, cons_below, limited_ok, limited_past, limited_long, Held, out_ok}
 use Rattle.row_out.proofs.RoundCount.{rounds_vars}

@@ -4,7 +4,7 @@ use mathlib.Core.List.{List, [], ◌∷◌, ◌++◌, append_assoc, append-nil}
 use mathlib.Core.Bool.{Bool, true, false}
 use Prim.Native.Nat.{ℕ, ◌+◌, ◌-◌, ◌≤◌, ◌<◌, ◌^◌}
 use native.Mathlib.Omega.{arith}
-use lib.ListN.{length, take, length-append}
+use lib.ListN.{length, length-append}
 use lib.Dec.{ltb, eqb}
 use borrow.Author.Tests.{ltb-false, eqb-false, lt-ltb, le-ltb, ne_eqb}
 use Rattle.coding.specs.Words.{if◌then◌else◌, no, ok}
@@ -19,7 +19,6 @@ use Rattle.row_out.specs.Writing.{Word, number, raw, nothing, word_number, field
 use Rattle.row_out.specs.Limits.{below62, limited, word_numbers, frame_out, vars_bytes, vars_out, stored}
 use Rattle.row_out.proofs.Laws.{below_at, below_not, vars_bound, limited_past, limited_seen, Held, out_ok, vals_same}
 use Rattle.frame_out.specs.Frames.{ecn_out, stream_type, stream_words, meta_bytes, meta_out, crypto_out, new_token_out, reset_stream_out, stop_sending_out, new_cid_out, datagram_out, ack_frequency_out}
-use Rattle.frame_out.specs.Closes.{connection}
 
 pub ecn_vals : (a b c : ℕ) → ecn_out a b c ≡ vars_out (a ∷ b ∷ c ∷ []) []
 unfolding ecn_out row_bytes field_bytes vars_bytes

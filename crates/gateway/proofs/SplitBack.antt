@@ -18,7 +18,7 @@ use Rattle.frame.specs.Table.{flag}
 use Rattle.packet.specs.TypeBits.{type_of}
 use Rattle.packet.specs.Header.{Header, initial, zero_rtt, handshake, retry, short, negotiate, Outcome, refused_header, header_at, length_in}
 use Rattle.packet.specs.Split.{Split, cut_at, no_packet, split_by, split_on, split_with, split_at}
-use Rattle.packet.specs.Walk.{at_end, packet, PacketStep, met_on, step_on, stop_at, packet_step_at}
+use Rattle.packet.specs.Walk.{at_end, PacketStep, met_on, step_on, stop_at, packet_step_at}
 use Rattle.packet.proofs.Splits.{split_taken}
 use Rattle.gateway_frame.specs.Spans.{span_at}
 use Rattle.gateway.specs.Packets.{split_record, step_record}

@@ -18,7 +18,6 @@ use Rattle.shared.specs.Cid.{cid_of, cid_bytes}
 use Rattle.shared.specs.declared.cid.ConnectionId.{ConnectionId}
 use Rattle.shared.proofs.Back.{cid_same}
 use Rattle.shared.specs.declared.kinds.CutNumber.{CutNumber}
-use Rattle.number.specs.Cutting.{cut}
 use Rattle.packet.specs.Header.{Outcome, outside, headed, header_at}
 use Rattle.packet.specs.Split.{cut_at}
 use Rattle.packet.specs.Walk.{packet, PacketStep, met_on, step_on, packet_step_at}

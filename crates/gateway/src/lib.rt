@@ -42,11 +42,7 @@ pub fn guobbarel_split(
 }
 
 // The sample that the mask of a packet is made of.
-pub fn guobbarel_sample_place(
-    kind: u8,
-    packet: &[u8],
-    number_offset: usize,
-) -> SampleAnswer
+pub fn guobbarel_sample_place(kind: u8, packet: &[u8], number_offset: usize) -> SampleAnswer
     ensures { result ≡ sample_for kind packet.now number_offset }
 {
     if 5 < kind {

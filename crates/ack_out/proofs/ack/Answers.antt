@@ -3,7 +3,6 @@ use Rattle.coding.specs.Said.{wrote_of}
 use Rattle.coding.proofs.Writes.{written_no, written_short, written_ok}
 use Rattle.ack_out.proofs.Frames.{only_14, known, unknown}
 use Rattle.ack_out.proofs.Puts.{ready, blocks_room, all_put}
-use borrow.Author.Rules.{rules}
 use Rattle.ack_out.proofs.ack.Goals as goal
 
 pub returns-in_default : goal.returns-in_default

@@ -2,7 +2,6 @@ use mathlib.Core.Path.{sym, ◌∙◌}
 use Rattle.coding.specs.Said.{sized_of}
 use Rattle.coding.specs.Writing.{length_of}
 use Rattle.ack_out.proofs.Frames.{not_ranges}
-use borrow.Author.Rules.{rules}
 use Rattle.ack_out.proofs.ack_len.Goals as goal
 
 pub frame_len-requires : goal.frame_len-requires

@@ -1,5 +1,4 @@
 use Rattle.ack_out.specs.Acks.{ack_type_of}
-use borrow.Author.Rules.{rules}
 use Rattle.ack_out.proofs.ack_type.Goals as goal
 
 pub returns-in-Counts : goal.returns-in-Counts

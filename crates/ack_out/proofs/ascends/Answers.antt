@@ -1,9 +1,5 @@
-use Prim.Native.Nat.{◌-◌, ◌≤◌}
-use mathlib.Core.Path.{◌≡◌, refl, sym, ◌∙◌}
+use mathlib.Core.Path.{refl, sym, ◌∙◌}
 use native.Mathlib.Omega.{arith}
-use lib.ListN.{length, drop}
-use borrow.Author.Rules.{rules}
-use Rattle.ack_out.specs.Acks.{ascends}
 use Rattle.ack_out.proofs.Lists.{ascends_on, ascends_not, ascends_end}
 use Rattle.ack_out.proofs.ascends.Goals as goal
 

@@ -1,10 +1,7 @@
 use Prim.Native.Nat.{◌-◌, ◌≤◌}
-use mathlib.Core.Path.{◌≡◌, refl, sym, ◌∙◌}
-use native.Mathlib.Omega.{arith}
+use mathlib.Core.Path.{◌≡◌}
 use lib.ListN.{length, drop}
-use borrow.Author.Rules.{rules}
 use Rattle.ack_out.specs.Acks.{ascends}
-use Rattle.ack_out.proofs.Lists.{ascends_on, ascends_not, ascends_end}
 use Rattle.ack_out.proofs.ascends.Given as goal
 
 abbrev pub invariant-loop-i : goal.invariant-loop-i

@@ -1,7 +1,6 @@
 use native.Mathlib.Omega.{arith}
-use borrow.Author.Rules.{rules}
 use Rattle.ack_out.proofs.Lists.{kept}
-use Rattle.ack_out.proofs.Turns.{Summed, sum_start, sum_on, sum_end}
+use Rattle.ack_out.proofs.Turns.{sum_start, sum_on, sum_end}
 use Rattle.ack_out.proofs.blocks_len.Goals as goal
 
 pub overflow_sub-i : goal.overflow_sub-i

@@ -1,7 +1,4 @@
-use native.Mathlib.Omega.{arith}
-use borrow.Author.Rules.{rules}
-use Rattle.ack_out.proofs.Lists.{kept}
-use Rattle.ack_out.proofs.Turns.{Summed, sum_start, sum_on, sum_end}
+use Rattle.ack_out.proofs.Turns.{Summed}
 use Rattle.ack_out.proofs.blocks_len.Given as goal
 
 abbrev pub invariant-loop-i : goal.invariant-loop-i

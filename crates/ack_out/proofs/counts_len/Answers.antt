@@ -2,7 +2,6 @@ use Rattle.coding.specs.Said.{sized_of}
 use Rattle.coding.specs.Writing.{length_of}
 use Rattle.ack_out.specs.Acks.{counts_of}
 use Rattle.ack_out.proofs.Frames.{no_counts}
-use borrow.Author.Rules.{rules}
 use Rattle.ack_out.proofs.counts_len.Goals as goal
 
 pub returns-in-Counts : goal.returns-in-Counts

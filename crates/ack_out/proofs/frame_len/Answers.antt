@@ -4,7 +4,6 @@ use Rattle.coding.specs.Said.{sized_of}
 use Rattle.coding.specs.Writing.{length_of}
 use Rattle.row_out.proofs.Laws.{size_held, size_not}
 use Rattle.ack_out.proofs.Frames.{many_no, head_no, counts_no, long_no, all_ok, length_all}
-use borrow.Author.Rules.{rules}
 use Rattle.ack_out.proofs.frame_len.Goals as goal
 
 pub returns-then-list-gt-MAX_DATAGRAM : goal.returns-then-list-gt-MAX_DATAGRAM

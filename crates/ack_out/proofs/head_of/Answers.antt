@@ -3,7 +3,6 @@ use native.Mathlib.Omega.{arith}
 use lib.ListN.{length}
 use Rattle.ack_out.proofs.Lists.{kept, stepped}
 use Rattle.ack_out.proofs.Frames.{ranged}
-use borrow.Author.Rules.{rules}
 use Rattle.ack_out.proofs.head_of.Goals as goal
 
 pub overflow_sub-result : goal.overflow_sub-result

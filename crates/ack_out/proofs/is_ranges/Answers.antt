@@ -1,6 +1,5 @@
 use Rattle.coding.proofs.Rules.{choices}
 use Rattle.ack_out.specs.Acks.{is_ranges}
-use borrow.Author.Rules.{rules}
 use Rattle.ack_out.proofs.is_ranges.Goals as goal
 
 pub returns-then-n-eq0 : goal.returns-then-n-eq0

@@ -1,7 +1,6 @@
 use native.Mathlib.Omega.{arith}
-use borrow.Author.Rules.{rules}
 use Rattle.ack_out.proofs.Lists.{kept}
-use Rattle.ack_out.proofs.Turns.{Puts, puts_start, puts_length, puts_on, puts_end}
+use Rattle.ack_out.proofs.Turns.{puts_start, puts_length, puts_on, puts_end}
 use Rattle.ack_out.proofs.put_blocks.Goals as goal
 
 pub overflow_sub-i : goal.overflow_sub-i

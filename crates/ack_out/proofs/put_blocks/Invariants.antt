@@ -1,7 +1,4 @@
-use native.Mathlib.Omega.{arith}
-use borrow.Author.Rules.{rules}
-use Rattle.ack_out.proofs.Lists.{kept}
-use Rattle.ack_out.proofs.Turns.{Puts, puts_start, puts_length, puts_on, puts_end}
+use Rattle.ack_out.proofs.Turns.{Puts}
 use Rattle.ack_out.proofs.put_blocks.Given as goal
 
 abbrev pub invariant-loop-i : goal.invariant-loop-i

@@ -2,7 +2,6 @@ use Rattle.coding.proofs.Writes.{put_none}
 use Rattle.row_out.specs.Limits.{stored}
 use Rattle.ack_out.specs.Acks.{counts_of}
 use Rattle.ack_out.proofs.Frames.{no_counts}
-use borrow.Author.Rules.{rules}
 use Rattle.ack_out.proofs.put_counts.Goals as goal
 
 pub returns-in-Counts : goal.returns-in-Counts

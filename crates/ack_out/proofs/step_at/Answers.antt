@@ -1,7 +1,6 @@
 use mathlib.Core.Path.{refl}
 use native.Mathlib.Omega.{arith}
 use Rattle.ack_out.proofs.Lists.{kept, stepped}
-use borrow.Author.Rules.{rules}
 use Rattle.ack_out.proofs.step_at.Goals as goal
 
 pub overflow_sub-result-2 : goal.overflow_sub-result-2

@@ -1,7 +1,6 @@
 use mathlib.Core.Path.{sym}
 use native.Mathlib.Omega.{arith}
 use Rattle.coding.proofs.Laws.{sized_bytes, sized_not, size_le}
-use borrow.Author.Rules.{rules}
 use Rattle.ack_out.proofs.var_size.Goals as goal
 
 pub returns-in_default : goal.returns-in_default

@@ -1,5 +1,4 @@
 use Rattle.frame_out.proofs.Vals.{frequency_vals}
-use borrow.Author.Rules.{rules}
 use Rattle.frame_out.proofs.ack_frequency.Goals as goal
 
 pub returns : goal.returns

@@ -1,5 +1,4 @@
 use Rattle.frame_out.proofs.Vals.{crypto_vals}
-use borrow.Author.Rules.{rules}
 use Rattle.frame_out.proofs.crypto.Goals as goal
 
 pub returns : goal.returns

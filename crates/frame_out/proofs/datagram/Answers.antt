@@ -1,5 +1,4 @@
 use Rattle.frame_out.proofs.Vals.{datagram_vals_law}
-use borrow.Author.Rules.{rules}
 use Rattle.frame_out.proofs.datagram.Goals as goal
 
 pub returns-then-with_len : goal.returns-then-with_len

@@ -1,5 +1,4 @@
 use Rattle.frame_out.proofs.Vals.{ecn_vals}
-use borrow.Author.Rules.{rules}
 use Rattle.frame_out.proofs.ecn_counts.Goals as goal
 
 pub returns : goal.returns

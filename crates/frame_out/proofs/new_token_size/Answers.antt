@@ -1,5 +1,4 @@
 use Rattle.frame_out.proofs.Vals.{token_vals}
-use borrow.Author.Rules.{rules}
 use Rattle.frame_out.proofs.new_token_size.Goals as goal
 
 pub returns : goal.returns

@@ -1,5 +1,4 @@
 use Rattle.frame_out.proofs.Vals.{reset_vals}
-use borrow.Author.Rules.{rules}
 use Rattle.frame_out.proofs.reset_stream.Goals as goal
 
 pub returns : goal.returns

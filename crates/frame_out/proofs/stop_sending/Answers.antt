@@ -1,5 +1,4 @@
 use Rattle.frame_out.proofs.Vals.{stop_vals}
-use borrow.Author.Rules.{rules}
 use Rattle.frame_out.proofs.stop_sending.Goals as goal
 
 pub returns : goal.returns

@@ -4,7 +4,6 @@ use borrow.Author.Tests.{eq-eqb, ne_eqb}
 use Rattle.coding.specs.Said.{wrote_of}
 use Rattle.coding.proofs.Writes.{written_no}
 use Rattle.frame_out.proofs.Vals.{meta_below, meta_past, meta_out_law}
-use borrow.Author.Rules.{rules}
 use Rattle.frame_out.proofs.stream_meta.Goals as goal
 
 pub returns-then-meta : goal.returns-then-meta

@@ -1,6 +1,5 @@
 use native.Mathlib.Omega.{arith}
 use Rattle.frame_out.specs.Frames.{stream_type}
-use borrow.Author.Rules.{rules}
 use Rattle.frame_out.proofs.stream_type.Goals as goal
 
 pub overflow_add-result : goal.overflow_add-result

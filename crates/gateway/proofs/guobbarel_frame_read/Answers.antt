@@ -1,6 +1,5 @@
 use mathlib.Core.Path.{sym, ◌∙◌}
 use native.Mathlib.Omega.{arith}
-use borrow.Author.Rules.{rules}
 use Rattle.gateway_frame.proofs.PaddingRead.{stands, padding_read}
 use Rattle.gateway.proofs.guobbarel_frame_read.Goals as goal
 

@@ -1,6 +1,5 @@
 use Rattle.gateway.proofs.HeaderWrites.{puts_no, puts_said, for_no, for_ok}
 use mathlib.Core.Path.{sym, ◌∙◌}
-use borrow.Author.Rules.{rules}
 use Rattle.gateway.proofs.guobbarel_header_write.Goals as goal
 
 pub returns-then-is_outside : goal.returns-then-is_outside

@@ -1,6 +1,5 @@
 use Rattle.protect.specs.Said.{masked_of}
 use Rattle.gateway.proofs.MaskCases.{mask_no, mask_flag, mask_mask, mask_ok, mask_on}
-use borrow.Author.Rules.{rules}
 use Rattle.gateway.proofs.guobbarel_mask.Goals as goal
 
 pub returns-then-has_length-gt1 : goal.returns-then-has_length-gt1

@@ -1,7 +1,6 @@
 use mathlib.Core.Path.{◌∙◌, ap}
 use Rattle.spaces.specs.Each.{space_for}
 use Rattle.spaces.specs.Calls.{lifted}
-use borrow.Author.Rules.{rules}
 use Rattle.gateway.proofs.guobbarel_number_step.Goals as goal
 
 pub returns-in_default : goal.returns-in_default

@@ -1,5 +1,4 @@
 use Rattle.coding.proofs.Rules.{choices}
-use borrow.Author.Rules.{rules}
 use Rattle.gateway.proofs.guobbarel_sample_place.Goals as goal
 
 pub returns-then-kind-gt5 : goal.returns-then-kind-gt5

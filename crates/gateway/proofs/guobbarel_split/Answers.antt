@@ -1,5 +1,4 @@
 use Rattle.coding.proofs.Rules.{choices}
-use borrow.Author.Rules.{rules}
 use Rattle.gateway.proofs.guobbarel_split.Goals as goal
 
 pub returns-then-grease-gt1 : goal.returns-then-grease-gt1

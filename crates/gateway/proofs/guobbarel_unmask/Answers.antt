@@ -1,5 +1,4 @@
 use Rattle.gateway.proofs.MaskCases.{unmask_no, unmask_kind, unmask_mask, unmask_ok, unmask_on}
-use borrow.Author.Rules.{rules}
 use Rattle.gateway.proofs.guobbarel_unmask.Goals as goal
 
 pub returns-then-kind-gt5 : goal.returns-then-kind-gt5

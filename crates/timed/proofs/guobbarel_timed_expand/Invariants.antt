@@ -1,11 +1,7 @@
 use Prim.Native.Nat.{◌-◌, ◌≤◌}
-use mathlib.Core.Path.{◌≡◌, refl, sym, ◌∙◌}
-use native.Mathlib.Omega.{arith}
-use borrow.Author.Rules.{rules}
+use mathlib.Core.Path.{◌≡◌}
 use lib.ListN.{length, drop}
-use Rattle.number.specs.Said.{full_of}
 use Rattle.timed.specs.Timed.{gathered_from, gathered, fulls_of}
-use Rattle.timed.proofs.Laws.{none, stops, goes_on, only_14}
 use Rattle.timed.proofs.guobbarel_timed_expand.Given as goal
 
 abbrev pub invariant-loop-count : goal.invariant-loop-count

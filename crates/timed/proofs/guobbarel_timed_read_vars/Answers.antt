@@ -1,11 +1,7 @@
-use Prim.Native.Nat.{◌-◌, ◌≤◌}
-use mathlib.Core.Path.{◌≡◌, sym, ◌∙◌}
+use mathlib.Core.Path.{sym, ◌∙◌}
 use native.Mathlib.Omega.{arith}
-use borrow.Author.Rules.{rules}
-use lib.ListN.{length}
 use Rattle.coding.specs.Said.{var_of}
 use Rattle.coding.proofs.Laws.{var_inside}
-use Rattle.timed.specs.Timed.{gathered_from, gathered, vars_from, vars_of}
 use Rattle.timed.proofs.Laws.{start, vars_end, vars_cut, vars_on}
 use Rattle.timed.proofs.guobbarel_timed_read_vars.Goals as goal
 

@@ -1,5 +1,4 @@
 use Rattle.timed.proofs.Laws.{so}
-use borrow.Author.Rules.{rules}
 use Rattle.timed.proofs.guobbarel_timed_reset_stream.Goals as goal
 
 pub returns : goal.returns

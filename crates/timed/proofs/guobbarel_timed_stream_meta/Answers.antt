@@ -3,7 +3,6 @@ use mathlib.Core.Path.{◌∙◌}
 use Rattle.coding.specs.Said.{wrote_of}
 use Rattle.coding.proofs.Writes.{written_no}
 use Rattle.timed.proofs.Laws.{so, flag_no, flag_on}
-use borrow.Author.Rules.{rules}
 use Rattle.timed.proofs.guobbarel_timed_stream_meta.Goals as goal
 
 pub returns-then-fin-gt1 : goal.returns-then-fin-gt1

@@ -1,6 +1,5 @@
 use Rattle.coding.specs.Said.{wrote_of}
 use Rattle.timed.specs.Timed.{write_record}
-use borrow.Author.Rules.{rules}
 use Rattle.timed.proofs.written.Goals as goal
 
 pub returns-in-Len : goal.returns-in-Len

@@ -1,4 +1,3 @@
-use borrow.Author.Rules.{rules}
 use Rattle.frame_out.proofs.closes.close.Goals as goal
 
 pub returns-in-Connection : goal.returns-in-Connection

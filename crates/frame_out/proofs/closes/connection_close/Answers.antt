@@ -1,6 +1,5 @@
 use native.Mathlib.Omega.{arith}
 use lib.ListN.{length-take}
-use borrow.Author.Rules.{rules}
 use Rattle.coding.specs.Said.{wrote_of}
 use Rattle.coding.proofs.Laws.{sized_bytes, sized_not, size_le}
 use Rattle.coding.proofs.Writes.{written_no}

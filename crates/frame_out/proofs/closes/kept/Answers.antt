@@ -8,7 +8,6 @@ use Rattle.coding.specs.Said.{sized_of}
 use Rattle.coding.specs.Writing.{length_of}
 use Rattle.coding.proofs.Laws.{sized_bytes, sized_not, size_le}
 use Rattle.frame_out.proofs.Cuts.{cut_past, cut_short, cut_some}
-use borrow.Author.Rules.{rules}
 use Rattle.frame_out.proofs.closes.kept.Goals as goal
 
 pub returns-in_default : goal.returns-in_default

@@ -1,6 +1,5 @@
 use Rattle.coding.specs.Said.{var_of}
 use Rattle.frame_out.specs.Said.{id_read_of}
-use borrow.Author.Rules.{rules}
 use Rattle.frame_out.proofs.codec.decode_stream_id.Goals as goal
 
 pub returns-in_default : goal.returns-in_default

@@ -1,5 +1,4 @@
 use Rattle.packet_out.specs.Said.{encoded_of, partial_said}
-use borrow.Author.Rules.{rules}
 use Rattle.gateway.proofs.headers.header_record.Goals as goal
 
 pub returns-in-Partial : goal.returns-in-Partial

@@ -1,5 +1,4 @@
 use Rattle.number.specs.Said.{so_far_of}
-use borrow.Author.Rules.{rules}
 use Rattle.gateway.proofs.numbers.has.Goals as goal
 
 pub returns-in-Nothing : goal.returns-in-Nothing

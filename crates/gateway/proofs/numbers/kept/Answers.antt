@@ -1,6 +1,5 @@
 use Rattle.number.specs.Said.{kept_of}
 use Rattle.spaces.specs.Calls.{within}
-use borrow.Author.Rules.{rules}
 use Rattle.gateway.proofs.numbers.kept.Goals as goal
 
 pub returns-in-Done : goal.returns-in-Done

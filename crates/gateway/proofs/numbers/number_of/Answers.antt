@@ -1,6 +1,5 @@
 use Rattle.number.specs.Ends.{base_of}
 use Rattle.number.specs.Said.{so_far_of}
-use borrow.Author.Rules.{rules}
 use Rattle.gateway.proofs.numbers.number_of.Goals as goal
 
 pub returns-in-Nothing : goal.returns-in-Nothing

@@ -1,4 +1,3 @@
-use borrow.Author.Rules.{rules}
 use Rattle.gateway.proofs.numbers.put.Goals as goal
 
 pub returns-in-Initial : goal.returns-in-Initial

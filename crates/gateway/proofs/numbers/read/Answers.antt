@@ -2,7 +2,6 @@ use mathlib.Core.Path.{sym}
 use Rattle.number.specs.Said.{full_of}
 use Rattle.spaces.specs.Calls.{within, lifted}
 use Rattle.gateway.proofs.InOne.{read_done}
-use borrow.Author.Rules.{rules}
 use Rattle.gateway.proofs.numbers.read.Goals as goal
 
 pub returns-in-Number : goal.returns-in-Number

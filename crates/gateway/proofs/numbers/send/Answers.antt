@@ -1,6 +1,5 @@
 use Rattle.number.specs.Said.{sent_of}
 use Rattle.spaces.specs.Calls.{within, lifted}
-use borrow.Author.Rules.{rules}
 use Rattle.gateway.proofs.numbers.send.Goals as goal
 
 pub returns-in-Sent : goal.returns-in-Sent

@@ -1,7 +1,6 @@
 use borrow.Author.Tests.{ne_eqb}
 use Rattle.coding.specs.Words.{if◌then◌else◌}
 use Rattle.spaces.specs.Calls.{within, lifted}
-use borrow.Author.Rules.{rules}
 use Rattle.gateway.proofs.numbers.step_by.Goals as goal
 
 pub returns-in-0 : goal.returns-in-0

@@ -1,7 +1,6 @@
 use mathlib.Core.Path.{sym, ap, ◌∙◌}
 use Rattle.gateway.specs.Numbers.{unkept}
 use Rattle.gateway.proofs.InOne.{step_unkept, step_kept}
-use borrow.Author.Rules.{rules}
 use Rattle.gateway.proofs.numbers.step_in.Goals as goal
 
 pub returns-then-is_unkept : goal.returns-then-is_unkept

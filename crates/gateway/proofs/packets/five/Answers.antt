@@ -1,5 +1,4 @@
 use Rattle.gateway.proofs.MaskCases.{five_all}
-use borrow.Author.Rules.{rules}
 use Rattle.gateway.proofs.packets.five.Goals as goal
 
 pub returns : goal.returns

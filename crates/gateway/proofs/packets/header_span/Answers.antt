@@ -1,7 +1,6 @@
 use Prim.Native.Nat.{◌+◌, ◌≤◌, ◌<◌}
 use native.Mathlib.Omega.{arith}
 use Rattle.coding.proofs.Rules.{choices}
-use borrow.Author.Rules.{rules}
 use Rattle.gateway.proofs.packets.header_span.Goals as goal
 
 pub returns-then-len-number_offset : goal.returns-then-len-number_offset

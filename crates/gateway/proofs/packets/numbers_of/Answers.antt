@@ -1,5 +1,4 @@
 use Rattle.packet.specs.Said.{long_of, header_of}
-use borrow.Author.Rules.{rules}
 use Rattle.gateway.proofs.packets.numbers_of.Goals as goal
 
 pub returns-in-Initial : goal.returns-in-Initial

@@ -1,7 +1,6 @@
 use Prim.Native.Nat.{◌+◌, ◌≤◌, ◌<◌}
 use Rattle.coding.proofs.Rules.{choices}
 use native.Mathlib.Omega.{arith}
-use borrow.Author.Rules.{rules}
 use Rattle.gateway.proofs.packets.payload_span.Goals as goal
 
 pub returns-then-len-number_offset : goal.returns-then-len-number_offset

@@ -1,5 +1,4 @@
 use Rattle.protect.specs.Said.{sample_of}
-use borrow.Author.Rules.{rules}
 use Rattle.gateway.proofs.packets.sample_record.Goals as goal
 
 pub returns-in-At : goal.returns-in-At

@@ -1,5 +1,4 @@
 use Rattle.packet.specs.Said.{outcome_of}
-use borrow.Author.Rules.{rules}
 use Rattle.gateway.proofs.packets.split_record.Goals as goal
 
 pub returns : goal.returns

@@ -1,5 +1,4 @@
 use Rattle.coding.proofs.Rules.{choices}
-use borrow.Author.Rules.{rules}
 use Rattle.gateway.proofs.packets.src_place.Goals as goal
 
 pub returns-then-kind-eq4 : goal.returns-then-kind-eq4

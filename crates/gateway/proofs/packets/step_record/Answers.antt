@@ -1,5 +1,4 @@
 use Rattle.packet.specs.Said.{met_of, packet_step_of}
-use borrow.Author.Rules.{rules}
 use Rattle.gateway.proofs.packets.step_record.Goals as goal
 
 pub returns-in-End : goal.returns-in-End

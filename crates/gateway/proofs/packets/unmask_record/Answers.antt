@@ -1,5 +1,4 @@
 use Rattle.protect.specs.Said.{finished_of}
-use borrow.Author.Rules.{rules}
 use Rattle.gateway.proofs.packets.unmask_record.Goals as goal
 
 pub returns-in-Long : goal.returns-in-Long
