@@ -5,6 +5,7 @@ use cases::line;
 use coding::{Place, Refusal, part, put_slice};
 use frame::{Ack, AckEcn, Close, Frame, TypeRead};
 use shared::{Dir, FrameType, FullNumber};
+use std::io::Stdout;
 
 // The words before the numbers, each after a space; then the place of each among them: 13_07 is 7 bytes from 13 on.
 const WORDS: [u8; 223] =
@@ -307,7 +308,7 @@ pub(crate) fn and_text(t: Text, out: &mut [u8], at: usize) -> usize {
 }
 
 // The ranges of an ACK, whose numbers begin with its largest, its delay and the place of its blocks.
-pub(crate) fn and_ranges(payload: &[u8], t: Text, out: &mut [u8], at: usize) -> usize {
+pub(crate) fn and_ranges(to: Stdout, payload: &[u8], t: Text, out: &mut [u8], at: usize) -> usize {
     if t.word != ACK {
         return at;
     }
@@ -315,6 +316,7 @@ pub(crate) fn and_ranges(payload: &[u8], t: Text, out: &mut [u8], at: usize) -> 
     let start = numbers[2] as usize;
     let len = numbers[3] as usize;
     blocks::ranges(
+        to,
         FullNumber(numbers[0]),
         part(payload, Place { start, len }),
         out,

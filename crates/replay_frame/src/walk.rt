@@ -64,10 +64,10 @@ fn step(payload: &[u8], start: usize) -> Met {
     met_by(start, s.size, said)
 }
 
-fn and_met(payload: &[u8], m: Met, out: &mut [u8], at: usize) -> usize {
+fn and_met(to: Stdout, payload: &[u8], m: Met, out: &mut [u8], at: usize) -> usize {
     let p = shown::and_text(m.begun, out, at);
     let p = shown::and_text(m.text, out, p);
-    shown::and_ranges(payload, m.text, out, p)
+    shown::and_ranges(to, payload, m.text, out, p)
 }
 
 // Each frame until the payload ends or one is refused; each has a byte.
@@ -77,7 +77,7 @@ fn each(to: Stdout, payload: &[u8], out: &mut [u8], at: usize) -> usize {
     let mut turns = 0;
     while turns <= payload.len() {
         let m = step(payload, start);
-        p = and_met(payload, m, out, p);
+        p = and_met(to, payload, m, out, p);
         if !m.more {
             return p;
         }
