@@ -1,4 +1,5 @@
 -- Laws of the scan.
+use Rattle.std.specs.Prelude.{if◌then◌else◌}
 use mathlib.Core.Path.{◌≡◌, refl, sym}
 use mathlib.Core.List.{List}
 use mathlib.Core.Bool.{Bool, true, false}
@@ -7,7 +8,7 @@ use native.Mathlib.Omega.{arith}
 use lib.Dec.{ltb}
 use lib.ListN.{length}
 use borrow.Author.Tests.{ltb-false, lt-leb, le-ltb}
-use Rattle.coding.specs.Words.{if◌then◌else◌, Got, cut, got, and_then, Answer, no, ok}
+use Rattle.coding.specs.Words.{Got, cut, got, and_then, Answer, no, ok}
 use Rattle.coding.specs.Varint.{var_at}
 use Rattle.coding.specs.Said.{var_of}
 use Rattle.coding.specs.declared.varint.VarInt.{VarInt}
@@ -46,7 +47,6 @@ then_ok cut k f e h = let z : ◌≡◌ {A = ℕ} 0 1 = cc in absurd (omega arit
 then_ok (got v n) k f e h = record { value = v; next = n; read = refl; more = h }
 
 pub if_ok : (a b k : ℕ) (x : Answer ℕ) (e : ℕ) → (if ltb a b then no k else x) ≡ ok e → (b ≤ a) × (x ≡ ok e)
-unfolding if◌then◌else◌
 if_ok a b k x e = go (ltb a b) refl
   where
     go : (t : Bool) → ltb a b ≡ t → (if t then no k else x) ≡ ok e → (b ≤ a) × (x ≡ ok e)
@@ -81,7 +81,7 @@ module _ (s : List ℕ) (at smallest : ℕ) (r : Round) (e : (n : ℕ) → round
 
 -- within the arguments' rule nothing is refused 14
 pub in_rule : (s : List ℕ) (at largest n : ℕ) → length s ≤ 65527 → largest < 2 ^ 62 → n < 2 ^ 62 → scanned s at largest n ≡ scan_at s at largest n
-unfolding scanned if◌then◌else◌
+unfolding scanned
 in_rule s at largest n short h k = simp (le-ltb _ _ short, lt-leb _ _ h, lt-leb _ _ k)
 
 -- ---- where the scan ends: at or past a place, and inside the list

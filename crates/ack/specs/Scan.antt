@@ -1,7 +1,7 @@
 -- ACK ranges: RFC 9000, section 19.3.1. The smallest number of a range is its largest minus the block; the next range's largest
 -- is that smallest minus the gap minus 2. Below zero is 12, a field that is cut is 10.
-use Rattle.std.specs.Prelude.{ℕ, zero, suc, ◌+◌, ◌-◌, List, [], ◌∷◌, length, ltb, leb}
-use Rattle.coding.specs.Words.{if◌then◌else◌, and_then, Answer, no, ok, number_end, max_datagram}
+use Rattle.std.specs.Prelude.{ℕ, zero, suc, ◌+◌, ◌-◌, List, [], ◌∷◌, length, ltb, leb, if◌then◌else◌}
+use Rattle.coding.specs.Words.{and_then, Answer, no, ok, number_end, max_datagram}
 use Rattle.coding.specs.Varint.{var_at}
 
 -- a range: its smallest number and its largest

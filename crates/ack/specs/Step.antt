@@ -1,6 +1,6 @@
 -- One step of the reader of an ACK frame's ranges, over the bytes of the blocks: document 01, "Frames".
-use Rattle.std.specs.Prelude.{ℕ, zero, suc, ◌+◌, ◌-◌, List, [], ◌∷◌, length, ltb, leb}
-use Rattle.coding.specs.Words.{if◌then◌else◌, and_then, number_end, max_datagram}
+use Rattle.std.specs.Prelude.{ℕ, zero, suc, ◌+◌, ◌-◌, List, [], ◌∷◌, length, ltb, leb, if◌then◌else◌}
+use Rattle.coding.specs.Words.{and_then, number_end, max_datagram}
 use Rattle.coding.specs.Varint.{var_at}
 use Rattle.ack.specs.Scan.{Range}
 

@@ -1,4 +1,5 @@
 -- A reader over the bytes that are left says what steps over the whole slice say: so over what the scan took it hands out exactly the scan's ranges, largest first, and ends.
+use Rattle.std.specs.Prelude.{if◌then◌else◌}
 use mathlib.Core.Path.{◌≡◌, refl, sym, ap, ◌∙◌}
 use mathlib.Core.Bool.{Bool, true, false}
 use mathlib.Core.List.{List, [], ◌∷◌, ◌++◌, map}
@@ -9,7 +10,7 @@ use lib.Dec.{leb}
 use lib.ListN.{length, drop, get_or, length-drop}
 use lib.Seq.{drop-drop}
 use borrow.Author.Tests.{le-ltb, le-leb, lt-leb, leb-true, leb-false}
-use Rattle.coding.specs.Words.{if◌then◌else◌, Got, cut, got, and_then, ok}
+use Rattle.coding.specs.Words.{Got, cut, got, and_then, ok}
 use Rattle.coding.specs.Places.{part_of}
 use Rattle.coding.proofs.Laws.{part_in}
 use Rattle.coding.proofs.Shift.{further, var_behind}
@@ -26,7 +27,6 @@ abbrev later : ℕ → Taken → Taken
 later k t = record { step = t.step; largest = t.largest; next = k + t.next }
 
 if_later : (k : ℕ) (b c : Bool) (x y x' y' : Taken) → b ≡ c → x ≡ later k x' → y ≡ later k y' → (if b then x else y) ≡ later k (if c then x' else y')
-unfolding if◌then◌else◌
 if_later k b true x y x' y' e f g = rw e f
 if_later k b false x y x' y' e f g = rw e g
 

@@ -1,11 +1,12 @@
 -- The blocks that are written are scanned whole, and the ranges that the scan passes are those that were written.
+use Rattle.std.specs.Prelude.{if◌then◌else◌}
 use mathlib.Core.Path.{◌≡◌, refl, ap, ◌∙◌}
 use mathlib.Core.List.{List, [], ◌∷◌, ◌++◌, append_assoc}
 use Prim.Native.Nat.{ℕ, suc, ◌+◌, ◌-◌, ◌≤◌, ◌<◌, ◌^◌}
 use native.Mathlib.Omega.{arith}
 use lib.ListN.{length, length-append}
 use borrow.Author.Tests.{le-ltb}
-use Rattle.coding.specs.Words.{if◌then◌else◌, got, and_then, ok}
+use Rattle.coding.specs.Words.{got, and_then, ok}
 use Rattle.coding.specs.Varint.{var_at, var_bytes, var_size}
 use Rattle.coding.proofs.Laws.{length_var}
 use Rattle.coding.proofs.Back.{var_back}
@@ -30,7 +31,7 @@ there s p q at x h e f = rw (f, e) (var_back p q x h)
 -- one round that is not refused
 round_on : (s : List ℕ) (n at low gap mid block past : ℕ) → var_at s at ≡ got gap mid → gap + 2 ≤ low → var_at s mid ≡ got block past → block ≤ low - (gap + 2)
     → rounds s (suc n) at low ≡ rounds s n past (low - (gap + 2) - block)
-unfolding rounds and_then if◌then◌else◌
+unfolding rounds and_then
 round_on s n at low gap mid block past g h k l = rw (g, le-ltb low (gap + 2) h, k, le-ltb (low - (gap + 2)) block l)
 
 -- the rounds over s from a place on, where the rounds' bytes stand
@@ -77,7 +78,7 @@ pub record Scanned (s : List ℕ) (at : ℕ) (r : Range) (rs : List Range) : Typ
   pub passed : ranges_at s at r.largest (length rs) ≡ r ∷ rs
 
 scan_on : (s : List ℕ) (at largest n first after : ℕ) → var_at s at ≡ got first after → first ≤ largest → scan_at s at largest n ≡ rounds s n after (largest - first)
-unfolding scan_at and_then if◌then◌else◌
+unfolding scan_at and_then
 scan_on s at largest n first after e h = rw (e, le-ltb largest first h)
 
 pub scan_back : (s : List ℕ) (r : Range) (rs : List Range) (p q : List ℕ) (at : ℕ) → r.largest < 2 ^ 62 → r.smallest ≤ r.largest → Below r.smallest rs

@@ -1,4 +1,5 @@
 -- The frame's bytes, its size and its refusals.
+use Rattle.std.specs.Prelude.{if◌then◌else◌}
 use mathlib.Core.Path.{◌≡◌, refl, sym, ap, ◌∙◌}
 use mathlib.Core.List.{List, [], ◌∷◌, ◌++◌, append_assoc, append-nil}
 use mathlib.Core.Bool.{Bool, true, false}
@@ -8,7 +9,7 @@ use native.Mathlib.Omega.{arith}
 use lib.Dec.{leb}
 use lib.ListN.{length, length-append}
 use borrow.Author.Tests.{leb-true, leb-false}
-use Rattle.coding.specs.Words.{if◌then◌else◌, Answer, no, ok}
+use Rattle.coding.specs.Words.{Answer, no, ok}
 use Rattle.coding.specs.Varint.{var_bytes, var_size}
 use Rattle.coding.proofs.Laws.{length_var, size_pos}
 use Rattle.coding.specs.Writing.{length_of}
@@ -96,7 +97,7 @@ unfolding vars_out counts_of vars_bytes
 no_counts = limited_ok [] [] none_below (omega arith)
 
 limited_no : (xs bs : List ℕ) (k : ℕ) → limited xs bs ≡ no k → limited xs bs ≡ no 14
-unfolding limited in_frame if◌then◌else◌
+unfolding limited in_frame
 limited_no xs bs k = go (below62 xs) (leb (length bs) 65527)
   where
     go : (t u : Bool) → ◌≡◌ {A = Answer (List ℕ)} (if t then (if u then ok bs else no 14) else no 14) (no k)
@@ -139,7 +140,7 @@ module _ (delay : ℕ) (l : List ℕ) (ecn : Option (ℕ × (ℕ × ℕ))) where
   given = largest_of (all_ranges l) ∷ delay ∷ counts
 
   pub not_ranges : is_ranges l ≡ false → ack_out delay l ecn ≡ no 14
-  unfolding ack_out if◌then◌else◌
+  unfolding ack_out
   not_ranges r = rw r
 
   module _ (r : is_ranges l ≡ true) where
@@ -156,7 +157,7 @@ module _ (delay : ℕ) (l : List ℕ) (ecn : Option (ℕ × (ℕ × ℕ))) where
     whole_is = bytes_of delay (all_ranges l) ecn rounds
 
     pub is_limited : ack_out delay l ecn ≡ limited given whole
-    unfolding ack_out frame_out if◌then◌else◌
+    unfolding ack_out frame_out
     is_limited = rw (r, numbers_of delay (all_ranges l) ecn, whole_is)
 
     -- each number of the list has a byte or more

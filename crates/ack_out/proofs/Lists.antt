@@ -1,4 +1,5 @@
 -- What the list's rule gives, and the blocks as the differences of neighbours in the list.
+use Rattle.std.specs.Prelude.{if◌then◌else◌}
 use mathlib.Core.Path.{◌≡◌, refl}
 use mathlib.Core.List.{List, [], ◌∷◌, ◌++◌}
 use mathlib.Core.Bool.{Bool, true, false}
@@ -8,7 +9,6 @@ use lib.Dec.{ltb, leb, eqb}
 use lib.ListN.{length, get_or, drop, length-drop}
 use lib.Seq.{drop-cons}
 use borrow.Author.Tests.{ltb-false, leb-false, eqb-false, le-leb, lt-leb}
-use Rattle.coding.specs.Words.{if◌then◌else◌}
 use Rattle.coding.specs.Varint.{var_bytes}
 use Rattle.row_out.specs.Limits.{vars_bytes}
 use Rattle.ack_out.specs.Acks.{ascends, is_ranges, range_at, ranges_of, all_ranges, round_numbers, block_numbers}
@@ -21,7 +21,6 @@ at l i = get_or l i 0
 
 -- a choice that is true
 pub not_then : (t x : Bool) → (if t then false else x) ≡ true → (t ≡ false) × (x ≡ true)
-unfolding if◌then◌else◌
 not_then true x h = let z : ◌≡◌ {A = ℕ} 0 1 = cc in absurd (omega arith)
 not_then false x h = (refl, h)
 
@@ -111,13 +110,13 @@ blocks_of l n k half =
 
 -- the test of two neighbours
 pub ascends_on : (l : List ℕ) (i : ℕ) → i + 1 < length l → at l i < at l (i + 1) → ascends (drop i l) ≡ ascends (drop (i + 1) l)
-unfolding ascends if◌then◌else◌
+unfolding ascends
 ascends_on l i h k =
     let e : i + 1 ≡ suc i = omega arith in
     rw (drop-cons l i 0 (omega arith), e, drop-cons l (suc i) 0 (omega arith), lt-leb (at l (suc i)) (at l i) (rw e at k))
 
 pub ascends_not : (l : List ℕ) (i : ℕ) → i + 1 < length l → at l (i + 1) ≤ at l i → ascends (drop i l) ≡ false
-unfolding ascends if◌then◌else◌
+unfolding ascends
 ascends_not l i h k =
     let e : i + 1 ≡ suc i = omega arith in
     rw (drop-cons l i 0 (omega arith), drop-cons l (suc i) 0 (omega arith), le-leb (at l (suc i)) (at l i) (rw e at k))

@@ -1,4 +1,5 @@
 -- What the encoder's puts make, once the frame is known to be within its limits.
+use Rattle.std.specs.Prelude.{if◌then◌else◌}
 use mathlib.Core.Path.{◌≡◌, refl, sym, ap, ◌∙◌}
 use mathlib.Core.List.{List, [], ◌++◌, append_assoc, append-nil}
 use mathlib.Core.Bool.{Bool, true, false}
@@ -8,7 +9,7 @@ use native.Mathlib.Omega.{arith}
 use lib.Dec.{leb}
 use lib.ListN.{length, length-append}
 use borrow.Author.Tests.{leb-true}
-use Rattle.coding.specs.Words.{if◌then◌else◌, no, ok}
+use Rattle.coding.specs.Words.{no, ok}
 use Rattle.coding.specs.Writing.{Put}
 use Rattle.coding.proofs.Laws.{length_splice}
 use Rattle.coding.proofs.Writes.{So, put_so, so_put}
@@ -24,7 +25,7 @@ pub record Within (given whole bs : List ℕ) : Type 0 where
   pub is : bs ≡ whole
 
 within : (given whole bs : List ℕ) → limited given whole ≡ ok bs → Within given whole bs
-unfolding limited in_frame if◌then◌else◌
+unfolding limited in_frame
 within given whole bs = go (below62 given) (leb (length whole) 65527) refl refl
   where
     go : (t u : Bool) → below62 given ≡ t → leb (length whole) 65527 ≡ u → (if t then (if u then ok whole else no 14) else no 14) ≡ ok bs → Within given whole bs

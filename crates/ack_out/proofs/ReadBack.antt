@@ -1,4 +1,5 @@
 -- What the encoder wrote is read back: the frame, and of its blocks exactly the ranges, largest first.
+use Rattle.std.specs.Prelude.{if◌then◌else◌}
 use mathlib.Core.Path.{◌≡◌, refl, sym, ap, ◌∙◌}
 use mathlib.Core.List.{List, [], ◌∷◌, ◌++◌, map, append-nil, append_assoc}
 use mathlib.Core.Bool.{true}
@@ -6,7 +7,7 @@ use mathlib.Core.Option.{Option, none, some}
 use Prim.Native.Nat.{ℕ, suc, ◌+◌, ◌-◌, ◌*◌, ◌/◌, ◌≤◌, ◌<◌, ◌^◌}
 use native.Mathlib.Omega.{arith}
 use lib.ListN.{length, length-append}
-use Rattle.coding.specs.Words.{if◌then◌else◌, ok}
+use Rattle.coding.specs.Words.{ok}
 use Rattle.coding.specs.Places.{part_of}
 use Rattle.coding.specs.Varint.{var_tag, var_size, var_bytes}
 use Rattle.coding.proofs.Laws.{length_var}
@@ -148,7 +149,7 @@ back_with p q delay rs (some (x, (y, z))) t d b r n =
 -- ---- sizes
 
 type_size : (ecn : Option (ℕ × (ℕ × ℕ))) → var_size (ack_type_of ecn) ≡ 1
-unfolding ack_type_of var_size var_tag if◌then◌else◌
+unfolding ack_type_of var_size var_tag
 type_size none = refl
 type_size (some c) = refl
 

@@ -1,7 +1,7 @@
 -- The ACK frame of a list of ranges: RFC 9000, section 19.3; document 01, "Encoders".
-use Rattle.std.specs.Prelude.{ℕ, zero, suc, ◌+◌, ◌-◌, ◌*◌, ◌/◌, ◌%◌, List, [], ◌∷◌, map, Bool, true, false, length, get_or, ltb, leb, eqb}
+use Rattle.std.specs.Prelude.{ℕ, zero, suc, ◌+◌, ◌-◌, ◌*◌, ◌/◌, ◌%◌, List, [], ◌∷◌, map, Bool, true, false, length, get_or, ltb, leb, eqb, if◌then◌else◌}
 use Rattle.std.proofs.Math.Option.{Option, none, some}
-use Rattle.coding.specs.Words.{if◌then◌else◌, Answer, no, number_end}
+use Rattle.coding.specs.Words.{Answer, no, number_end}
 use Rattle.ack.specs.Scan.{Range}
 use Rattle.frame.specs.Table.{table}
 use Rattle.row_out.specs.Writing.{Word, number, raw, nothing}

@@ -1,4 +1,5 @@
 -- Laws of this crate's definitions.
+use Rattle.std.specs.Prelude.{if◌then◌else◌}
 use mathlib.Core.Path.{◌≡◌, refl}
 use mathlib.Core.List.{List}
 use mathlib.Core.Bool.{Bool, true, false}
@@ -10,7 +11,7 @@ use lib.ListN.{length, drop, get_or, set, length-take}
 use lib.Seq.{drop-cons}
 use lib.Dec.{leb}
 use borrow.Author.Tests.{leb-true}
-use Rattle.coding.specs.Words.{if◌then◌else◌, cut, and_then}
+use Rattle.coding.specs.Words.{cut, and_then}
 use Rattle.coding.specs.Bytes.{splice}
 use Rattle.coding.specs.Reading.{fixed_at}
 use Rattle.coding.specs.Said.{place_of, u32_of}
@@ -77,7 +78,6 @@ words_none left s at o e = rw e
 -- they are all put, or none
 put_all : {P : Type 0} (bs old : List ℕ) {n : ℕ} {new : List ℕ} → Put bs old 0 n new
     → (length bs ≤ length old → n ≡ length bs → new ≡ splice old 0 bs → P) → (n ≡ 0 → new ≡ old → P) → P
-unfolding if◌then◌else◌
 put_all {P} bs old {n} {new} p all none = go (leb (0 + length bs) (length old)) refl
   where
     go : (t : Bool) → leb (0 + length bs) (length old) ≡ t → P

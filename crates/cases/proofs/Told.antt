@@ -1,4 +1,5 @@
 -- What is wrong with an input is told: a record that is cut is not taken for the input's end, and no other line is that of a bad one.
+use Rattle.std.specs.Prelude.{if◌then◌else◌}
 use mathlib.Core.Path.{◌≡◌, refl, ap}
 use mathlib.Core.List.{List}
 use mathlib.Core.Bool.{Bool, true, false}
@@ -7,7 +8,7 @@ use native.Mathlib.Omega.{arith}
 use lib.ListN.{length, get_or}
 use lib.Dec.{leb}
 use borrow.Author.Tests.{leb-false}
-use Rattle.coding.specs.Words.{if◌then◌else◌, cut}
+use Rattle.coding.specs.Words.{cut}
 use Rattle.coding.specs.Reading.{fixed_at}
 use Rattle.coding.proofs.Rules.{then_all}
 use Rattle.cases.specs.Records.{Case, asked, ended, stopped, head_in}
@@ -23,7 +24,7 @@ goes_on ended = false
 goes_on stopped = true
 
 no_byte : (s : List ℕ) → fixed_at 1 s 0 ≡ cut → length s ≡ 0
-unfolding fixed_at if◌then◌else◌
+unfolding fixed_at
 no_byte s = go (leb 1 (length s)) refl
   where
     go : (b : Bool) → leb 1 (length s) ≡ b → fixed_at 1 s 0 ≡ cut → length s ≡ 0

@@ -1,6 +1,5 @@
 -- What each case of the code's answers says.
-use Rattle.std.specs.Prelude.{ℕ, Bool, true, false, List, [], ◌∷◌, ◌++◌}
-use Rattle.coding.specs.Words.{if◌then◌else◌}
+use Rattle.std.specs.Prelude.{ℕ, Bool, true, false, List, [], ◌∷◌, ◌++◌, if◌then◌else◌}
 use Rattle.coding.specs.Refusals.{number_of}
 use Rattle.coding.specs.declared.Wrote.{Wrote}
 use Rattle.coding.specs.declared.Wrote.TheVariants as wrote

@@ -1,6 +1,5 @@
 -- Standard input and output, as far as a contract can tell: what is read is in none.
-use Rattle.std.specs.Prelude.{ℕ, ◌≡◌, List, [], ◌∷◌, length, replicate, ltb}
-use Rattle.coding.specs.Words.{if◌then◌else◌}
+use Rattle.std.specs.Prelude.{ℕ, ◌≡◌, List, [], ◌∷◌, length, replicate, ltb, if◌then◌else◌}
 use Rattle.text.specs.Puts.{puts}
 use Rattle.cases.specs.Records.{Case, asked, ended, stopped}
 

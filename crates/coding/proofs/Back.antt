@@ -1,4 +1,5 @@
 -- What is written is read back, wherever it stands.
+use Rattle.std.specs.Prelude.{if◌then◌else◌}
 use mathlib.Core.Path.{◌≡◌, refl, ap, ◌∙◌}
 use mathlib.Core.List.{List, ◌∷◌, ◌++◌, append_assoc}
 use Prim.Native.Nat.{ℕ, zero, suc, ◌+◌, ◌-◌, ◌*◌, ◌/◌, ◌%◌, ◌^◌, ◌≤◌, ◌<◌}
@@ -10,7 +11,7 @@ use lib.ListN.{length, take, drop, get_or, length-append}
 use lib.Seq.{get_or-append_seam, drop-append-add, take_at as take_to, drop_at, length-take-le}
 use borrow.Author.Tests.{lt-ltb, le-leb}
 use mathlib.Core.Bool.{true}
-use Rattle.coding.specs.Words.{if◌then◌else◌, got}
+use Rattle.coding.specs.Words.{got}
 use Rattle.coding.specs.Bytes.{be, bytes_be, splice}
 use Rattle.coding.specs.Places.{part_of}
 use Rattle.coding.specs.Reading.{fixed_at, take_at}
@@ -29,7 +30,7 @@ be_bytes (suc n) a x =
 -- ---- n bytes: the number's last n bytes come back
 
 pub fixed_back : (p q : List ℕ) (n x : ℕ) → fixed_at n (p ++ (bytes_be n x ++ q)) (length p) ≡ got (x % 256 ^ n) (length p + n)
-unfolding fixed_at if◌then◌else◌
+unfolding fixed_at
 fixed_back p q n x =
     let bs : List ℕ = bytes_be n x in
     let l : length bs ≡ n = length_bytes_be n x in
@@ -46,11 +47,11 @@ module _ (p bs q : List ℕ) where
   all = simp length-append
 
   pub take_back : take_at (length bs) (p ++ (bs ++ q)) (length p) ≡ got (record { start = length p; len = length bs }) (length p + length bs)
-  unfolding take_at if◌then◌else◌
+  unfolding take_at
   take_back = rw (le-leb (length p + length bs) (length (p ++ (bs ++ q))) (omega (arith, all)))
 
   pub part_back : part_of (p ++ (bs ++ q)) (record { start = length p; len = length bs }) ≡ bs
-  unfolding part_of if◌then◌else◌
+  unfolding part_of
   part_back =
       let i : leb (length p + length bs) (length (p ++ (bs ++ q))) ≡ true = le-leb (length p + length bs) (length (p ++ (bs ++ q))) (omega (arith, all)) in
       let d : drop (length p) (p ++ (bs ++ q)) ≡ bs ++ q = drop_at p (bs ++ q) (length p) refl in
@@ -61,7 +62,7 @@ module _ (p bs q : List ℕ) where
 -- a first byte and the bytes after it, anywhere in a list
 var_cons : (p t q : List ℕ) (b n v : ℕ) → var_len b ≡ n → length t + 1 ≡ n → be (b % 64) t ≡ v
     → var_at (p ++ (b ∷ (t ++ q))) (length p) ≡ got v (length p + n)
-unfolding var_at if◌then◌else◌
+unfolding var_at
 var_cons p t q b n v e l w =
     let s : List ℕ = p ++ (b ∷ (t ++ q)) in
     let first : get_or s (length p) 0 ≡ b = get_or-append_seam p b (t ++ q) 0 in

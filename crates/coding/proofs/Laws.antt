@@ -1,4 +1,5 @@
 -- Laws of the definitions, for this crate's proofs and those above it.
+use Rattle.std.specs.Prelude.{if◌then◌else◌}
 use mathlib.Core.Path.{◌≡◌, refl, sym, ap}
 use mathlib.Core.List.{List, [], ◌∷◌, ◌++◌, append_assoc}
 use mathlib.Core.Bool.{Bool, true, false}
@@ -10,7 +11,7 @@ use lib.Seq.{drop-drop, drop-append-add, take_at as take_to, get_or-drop}
 use lib.Dec.{ltb, leb}
 use lib.Pow.{pow_pos}
 use borrow.Author.Tests.{ltb-true, ltb-false, leb-true, le-leb, lt-leb, lt-ltb, le-ltb}
-use Rattle.coding.specs.Words.{if◌then◌else◌, Got, cut, got, Answer, no, ok}
+use Rattle.coding.specs.Words.{Got, cut, got, Answer, no, ok}
 use Rattle.coding.specs.Bytes.{byte_at, be, bytes_be, splice}
 use Rattle.coding.specs.Reading.{fixed_at, take_at}
 use Rattle.coding.specs.Varint.{var_len, var_at, var_tag, var_size, var_bytes, in62, var_sized, var_out, var_put}
@@ -83,7 +84,7 @@ low_bits (suc (suc (suc (suc k)))) h = absurd (omega arith)
 
 -- the tag of x is below 4, and x fits below it
 pub fits_tag : (x : ℕ) → x < 2 ^ 62 → (var_tag x < 4) × (x < 2 ^ (8 * 2 ^ var_tag x - 2))
-unfolding var_tag if◌then◌else◌
+unfolding var_tag
 fits_tag x h = go (ltb x (2 ^ 6)) (ltb x (2 ^ 14)) (ltb x (2 ^ 30)) refl refl refl
   where
     go : (a b c : Bool) → ltb x (2 ^ 6) ≡ a → ltb x (2 ^ 14) ≡ b → ltb x (2 ^ 30) ≡ c
@@ -132,7 +133,7 @@ size_pos x = one-le-pow (var_tag x) 2 (omega arith)
 -- ---- below 2^62, or 14
 
 pub in62_ok : {A : Type 0} (x : ℕ) (a b : A) → in62 x a ≡ ok b → (x < 2 ^ 62) × (a ≡ b)
-unfolding in62 if◌then◌else◌
+unfolding in62
 in62_ok {A} x a b = go (ltb x (2 ^ 62)) refl
   where
     go : (t : Bool) → ltb x (2 ^ 62) ≡ t → ◌≡◌ {A = Answer A} (if t then ok a else no 14) (ok b) → (x < 2 ^ 62) × (a ≡ b)
@@ -140,7 +141,7 @@ in62_ok {A} x a b = go (ltb x (2 ^ 62)) refl
     go false e h = let z : ◌≡◌ {A = ℕ} 0 1 = cc in absurd (omega arith)
 
 pub in62_no : {A : Type 0} (x k : ℕ) (a : A) → in62 x a ≡ no k → 2 ^ 62 ≤ x
-unfolding in62 if◌then◌else◌
+unfolding in62
 in62_no {A} x k a = go (ltb x (2 ^ 62)) refl
   where
     go : (t : Bool) → ltb x (2 ^ 62) ≡ t → ◌≡◌ {A = Answer A} (if t then ok a else no 14) (no k) → 2 ^ 62 ≤ x
@@ -149,19 +150,19 @@ in62_no {A} x k a = go (ltb x (2 ^ 62)) refl
 
 module _ (x : ℕ) where
   pub out_some : x < 2 ^ 62 → var_out x ≡ ok (var_bytes x)
-  unfolding var_out in62 if◌then◌else◌
+  unfolding var_out in62
   out_some h = simp (lt-ltb _ _ h)
 
   pub out_none : 2 ^ 62 ≤ x → var_out x ≡ no 14
-  unfolding var_out in62 if◌then◌else◌
+  unfolding var_out in62
   out_none h = simp (le-ltb _ _ h)
 
   pub put_some : x < 2 ^ 62 → var_put x ≡ var_bytes x
-  unfolding var_put if◌then◌else◌
+  unfolding var_put
   put_some h = simp (lt-ltb _ _ h)
 
   pub put_nothing : 2 ^ 62 ≤ x → var_put x ≡ []
-  unfolding var_put if◌then◌else◌
+  unfolding var_put
   put_nothing h = simp (le-ltb _ _ h)
 
 -- what a known size says
@@ -185,52 +186,52 @@ below_num r m x n p q = rw q at p
 
 module _ (s : List ℕ) (p : Place) where
   pub part_in : (k : ℕ) → k ≡ p.len → p.start + p.len ≤ length s → take k (drop p.start s) ≡ part_of s p
-  unfolding part_of if◌then◌else◌
+  unfolding part_of
   part_in k e h = rw e (simp (le-leb _ _ h))
 
   pub start_in : p.start + p.len ≤ length s → p.start ≡ start_of s p
-  unfolding start_of if◌then◌else◌
+  unfolding start_of
   start_in h = simp (le-leb _ _ h)
 
   pub part_out : length s < p.start + p.len → [] ≡ part_of s p
-  unfolding part_of if◌then◌else◌
+  unfolding part_of
   part_out h = simp (lt-leb _ _ h)
 
   pub start_out : length s < p.start + p.len → 0 ≡ start_of s p
-  unfolding start_of if◌then◌else◌
+  unfolding start_of
   start_out h = simp (lt-leb _ _ h)
 
 -- ---- the cases of a read
 
 module _ (n : ℕ) (s : List ℕ) (at : ℕ) where
   pub fixed_none : length s < at + n → cut ≡ fixed_at n s at
-  unfolding fixed_at if◌then◌else◌
+  unfolding fixed_at
   fixed_none h = simp (lt-leb _ _ h)
 
   pub fixed_some : (v : ℕ) → at + n ≤ length s → v ≡ be 0 (take n (drop at s)) → got v (at + n) ≡ fixed_at n s at
-  unfolding fixed_at if◌then◌else◌
+  unfolding fixed_at
   fixed_some v h e = rw e (simp (le-leb _ _ h))
 
   pub take_none : length s < at + n → cut ≡ take_at n s at
-  unfolding take_at if◌then◌else◌
+  unfolding take_at
   take_none h = simp (lt-leb _ _ h)
 
   pub take_some : at + n ≤ length s → got (record { start = at; len = n }) (at + n) ≡ take_at n s at
-  unfolding take_at if◌then◌else◌
+  unfolding take_at
   take_some h = simp (le-leb _ _ h)
 
 module _ (s : List ℕ) (at : ℕ) where
   pub var_none : length s ≤ at → cut ≡ var_at s at
-  unfolding var_at if◌then◌else◌
+  unfolding var_at
   var_none h = simp (le-ltb _ _ h)
 
   module _ (n : ℕ) (h : at < length s) (e : n ≡ var_len (byte_at s at)) where
     pub var_short : length s < at + n → cut ≡ var_at s at
-    unfolding var_at if◌then◌else◌
+    unfolding var_at
     var_short l = rw (lt-ltb _ _ h, ← e, lt-leb _ _ l)
 
     pub var_some : (v : ℕ) → at + n ≤ length s → v ≡ be (byte_at s at % 64) (take (n - 1) (drop (at + 1) s)) → got v (at + n) ≡ var_at s at
-    unfolding var_at if◌then◌else◌
+    unfolding var_at
     var_some v l k = rw (k, lt-ltb _ _ h, ← e, le-leb _ _ l)
 
   -- one byte below 64 is itself
@@ -246,7 +247,6 @@ module _ (s : List ℕ) (at : ℕ) where
 module _ {A : Type 0} (s : List ℕ) (at n next : ℕ) (a b : A) where
   -- a field of n bytes
   pub whole : (if leb (at + n) (length s) then got a (at + n) else cut) ≡ got b next → (at + n ≤ length s) × ((next ≡ at + n) × (a ≡ b))
-  unfolding if◌then◌else◌
   whole = go (leb (at + n) (length s)) refl
     where
       go : (t : Bool) → leb (at + n) (length s) ≡ t → (if t then got a (at + n) else cut) ≡ got b next → (at + n ≤ length s) × ((next ≡ at + n) × (a ≡ b))
@@ -282,7 +282,7 @@ pub record ReadVar (s : List ℕ) (at v next : ℕ) : Type 0 where
   pub past : next ≡ at + var_len (byte_at s at)
 
 pub read_var : (s : List ℕ) (at v next : ℕ) → var_at s at ≡ got v next → ReadVar s at v next
-unfolding var_at if◌then◌else◌
+unfolding var_at
 read_var s at v next = go (ltb at (length s)) (leb (at + n) (length s)) refl refl
   where
     n : ℕ

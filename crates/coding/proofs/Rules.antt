@@ -1,11 +1,12 @@
 -- The lists of lemmas that a `search` at a return takes.
+use Rattle.std.specs.Prelude.{if◌then◌else◌}
 use mathlib.Core.Path.{◌≡◌, refl}
 use Prim.Native.Nat.{ℕ, ◌≤◌, ◌<◌}
 use mathlib.Core.List.{List}
 use mathlib.Core.Bool.{Bool, true, false}
 use lib.Dec.{ltb, leb, eqb}
 use borrow.Author.Tests.{lt-ltb, le-ltb, le-leb, lt-leb, eq-eqb, ne_eqb}
-use Rattle.coding.specs.Words.{if◌then◌else◌, Got, cut, got, and_then}
+use Rattle.coding.specs.Words.{Got, cut, got, and_then}
 use Rattle.coding.specs.Reading.{fixed_at, take_at}
 use Rattle.coding.specs.Varint.{var_at}
 use Rattle.coding.specs.Said.{u8_of, u16_of, u32_of, u64_of, var_of, place_of}
@@ -30,27 +31,21 @@ pub ruleset tests = (lt-ltb, le-ltb, le-leb, lt-leb, eq-eqb, ne_eqb)
 -- a definition's choice by a test of two numbers
 module _ {A : Type 0} (a b : ℕ) (x p q : A) where
   pub lt_yes : a < b → x ≡ p → x ≡ (if ltb a b then p else q)
-  unfolding if◌then◌else◌
   lt_yes h e = rw (lt-ltb a b h) e
 
   pub lt_no : b ≤ a → x ≡ q → x ≡ (if ltb a b then p else q)
-  unfolding if◌then◌else◌
   lt_no h e = rw (le-ltb a b h) e
 
   pub le_yes : a ≤ b → x ≡ p → x ≡ (if leb a b then p else q)
-  unfolding if◌then◌else◌
   le_yes h e = rw (le-leb a b h) e
 
   pub le_no : b < a → x ≡ q → x ≡ (if leb a b then p else q)
-  unfolding if◌then◌else◌
   le_no h e = rw (lt-leb a b h) e
 
   pub eq_yes : a ≡ b → x ≡ p → x ≡ (if eqb a b then p else q)
-  unfolding if◌then◌else◌
   eq_yes h e = rw (eq-eqb a b h) e
 
   pub eq_no : (a ≡ b → ⊥) → x ≡ q → x ≡ (if eqb a b then p else q)
-  unfolding if◌then◌else◌
   eq_no h e = rw (ne_eqb a b h) e
 
 pub ruleset choices = (lt_yes, lt_no, le_yes, le_no, eq_yes, eq_no)
@@ -116,7 +111,6 @@ pub ruleset steps = (var_on, var_cut, place_on, place_cut, u8_on, u8_cut, u16_on
 
 -- what holds of each way holds of a choice, and of what follows a read
 pub if_all : {A : Type 0} (P : A → Type 0) (t : Bool) (p q : A) → (t ≡ true → P p) → (t ≡ false → P q) → P (if t then p else q)
-unfolding if◌then◌else◌
 if_all P true p q on off = on refl
 if_all P false p q on off = off refl
 

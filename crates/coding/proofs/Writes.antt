@@ -1,4 +1,5 @@
 -- How a writer's proof goes: the ways a put ends, what a run of puts keeps, and the ways a writer ends.
+use Rattle.std.specs.Prelude.{if◌then◌else◌}
 use mathlib.Core.Path.{◌≡◌, refl, ap, ◌∙◌}
 use mathlib.Core.List.{List, [], ◌++◌, append-nil}
 use mathlib.Core.Bool.{Bool, true, false}
@@ -8,7 +9,7 @@ use native.Mathlib.Omega.{arith}
 use lib.ListN.{length, length-append, take-append-drop}
 use lib.Dec.{leb}
 use borrow.Author.Tests.{le-leb, lt-leb}
-use Rattle.coding.specs.Words.{if◌then◌else◌, Answer, no, ok}
+use Rattle.coding.specs.Words.{Answer, no, ok}
 use Rattle.coding.specs.Bytes.{splice}
 use Rattle.coding.specs.Writing.{in_room, length_of, into_buffer, Written, Put}
 use Rattle.coding.proofs.Laws.{length_splice, splice_splice}
@@ -26,20 +27,16 @@ so_none old at = record { place = omega arith; bytes = simp (add-zero, append-ni
 
 module _ (bs old : List ℕ) (at : ℕ) where
   pub put_fits : {next : ℕ} {new : List ℕ} → at + length bs ≤ length old → So old at bs next new → Put bs old at next new
-  unfolding if◌then◌else◌
   put_fits h s = record { place = rw (le-leb _ _ h) s.place; bytes = rw (le-leb _ _ h) s.bytes }
 
   pub put_not : length old < at + length bs → Put bs old at at old
-  unfolding if◌then◌else◌
   put_not h = record { place = rw (lt-leb _ _ h); bytes = rw (lt-leb _ _ h) }
 
   pub put_so : {next : ℕ} {new : List ℕ} → at + length bs ≤ length old → Put bs old at next new → So old at bs next new
-  unfolding if◌then◌else◌
   put_so h p = record { place = rw (le-leb _ _ h) at p.place; bytes = rw (le-leb _ _ h) at p.bytes }
 
 -- no bytes are put anywhere
 pub put_none : (old : List ℕ) (at : ℕ) → Put [] old at at old
-unfolding if◌then◌else◌
 put_none old at = record { place = here (leb (at + 0) (length old)); bytes = same (leb (at + 0) (length old)) }
   where
     here : (t : Bool) → at ≡ (if t then at + 0 else at)
@@ -71,11 +68,11 @@ module _ (old : List ℕ) {w : Answer (List ℕ)} where
 
   module _ {bs : List ℕ} (e : w ≡ ok bs) where
     pub written_short : length old < length bs → Written w old (no 15) old
-    unfolding in_room length_of into_buffer if◌then◌else◌
+    unfolding in_room length_of into_buffer
     written_short h = record { says = rw (e, lt-leb _ _ h); leaves = rw (e, lt-leb _ _ h) }
 
     pub written_ok : {r : ℕ} {new : List ℕ} → length bs ≤ length old → So old 0 bs r new → Written w old (ok r) new
-    unfolding in_room length_of into_buffer if◌then◌else◌
+    unfolding in_room length_of into_buffer
     written_ok {r} h s =
         let p : r ≡ length bs = omega (arith, s.place) in
         record { says = rw (e, le-leb _ _ h) (ap ok p); leaves = rw (e, le-leb _ _ h) s.bytes }

@@ -1,7 +1,6 @@
 -- A place names a part of a lent slice; one that does not lie inside names the empty part.
-use Rattle.std.specs.Prelude.{ℕ, ◌+◌, ◌≡◌, List, [], length, take, drop, leb}
+use Rattle.std.specs.Prelude.{ℕ, ◌+◌, ◌≡◌, List, [], length, take, drop, leb, if◌then◌else◌}
 use Rattle.std.specs.Borrow.{Bor}
-use Rattle.coding.specs.Words.{if◌then◌else◌}
 use Rattle.coding.specs.declared.Place.{Place}
 
 -- the bytes of the part

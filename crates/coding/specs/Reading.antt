@@ -1,6 +1,6 @@
 -- Fields of a known length at a place.
-use Rattle.std.specs.Prelude.{ℕ, ◌+◌, List, length, take, drop, leb}
-use Rattle.coding.specs.Words.{if◌then◌else◌, Got, cut, got}
+use Rattle.std.specs.Prelude.{ℕ, ◌+◌, List, length, take, drop, leb, if◌then◌else◌}
+use Rattle.coding.specs.Words.{Got, cut, got}
 use Rattle.coding.specs.Bytes.{be}
 use Rattle.coding.specs.declared.Place.{Place}
 

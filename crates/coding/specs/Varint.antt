@@ -1,6 +1,6 @@
 -- Variable-length integers: RFC 9000, section 16 and A.1.
-use Rattle.std.specs.Prelude.{ℕ, ◌+◌, ◌-◌, ◌*◌, ◌/◌, ◌%◌, ◌^◌, List, [], length, take, drop, ltb, leb}
-use Rattle.coding.specs.Words.{if◌then◌else◌, Got, cut, got, Answer, no, ok, number_end}
+use Rattle.std.specs.Prelude.{ℕ, ◌+◌, ◌-◌, ◌*◌, ◌/◌, ◌%◌, ◌^◌, List, [], length, take, drop, ltb, leb, if◌then◌else◌}
+use Rattle.coding.specs.Words.{Got, cut, got, Answer, no, ok, number_end}
 use Rattle.coding.specs.Bytes.{byte_at, be, bytes_be}
 
 -- the two most significant bits of the first byte are the base-2 logarithm of the length in bytes

@@ -1,10 +1,5 @@
--- The words of every definition: a choice, what a read finds, and what a call answers.
+-- The words of every definition: what a read finds, and what a call answers.
 use Rattle.std.specs.Prelude.{ℕ, ◌^◌, Bool, true, false}
-
-infixr 20 if◌then◌else◌
-unfoldable pub if◌then◌else◌ : {A : Type 0} → Bool → A → A → A
-if true then a else b = a
-if false then a else b = b
 
 -- what a read at a place finds: a value and the place past it, or that the field is cut
 -- (by itself that is refusal 10; in a header it is 1, 3 or 6)

@@ -1,6 +1,6 @@
 -- What a writer does with a lent buffer, whatever it writes: the bytes to write, or a refusal, settle its answer and the buffer.
-use Rattle.std.specs.Prelude.{ℕ, ◌+◌, ◌≡◌, List, length, leb}
-use Rattle.coding.specs.Words.{if◌then◌else◌, Answer, no, ok}
+use Rattle.std.specs.Prelude.{ℕ, ◌+◌, ◌≡◌, List, length, leb, if◌then◌else◌}
+use Rattle.coding.specs.Words.{Answer, no, ok}
 use Rattle.coding.specs.Bytes.{splice}
 
 -- 15 where the bytes are more than the buffer has; a refusal comes first

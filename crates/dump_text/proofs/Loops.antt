@@ -1,4 +1,5 @@
 -- What one turn of the loop over the lines does, where it counts them and where it writes them.
+use Rattle.std.specs.Prelude.{if◌then◌else◌}
 use mathlib.Core.Path.{◌≡◌, refl, sym, ap, ◌∙◌}
 use mathlib.Core.List.{List, [], ◌∷◌, ◌++◌, append_assoc}
 use mathlib.Core.Bool.{Bool, true, false}
@@ -6,7 +7,6 @@ use mathlib.Core.Option.{Option, none, some}
 use Prim.Native.Nat.{ℕ, zero, suc, ◌+◌, ◌-◌, ◌^◌, ◌≤◌, ◌<◌}
 use native.Mathlib.Omega.{arith}
 use lib.ListN.{length, length-append}
-use Rattle.coding.specs.Words.{if◌then◌else◌}
 use Rattle.coding.specs.Writing.{Put}
 use Rattle.coding.proofs.Laws.{length_splice}
 use Rattle.coding.proofs.Writes.{So, so_none, so_put, put_so}
@@ -186,7 +186,7 @@ module _ {s old buf : List ℕ} {at p n : ℕ} (l : length s < 2 ^ 64) where
 
     pub lines_more : (anew : Bool) → Lines s old buf anew at p n → Roomy anew s (length old) → (next : ℕ) → some next ≡ next_of (step_here s at).met
         → Lines s old new anew next (place_after anew q) (n + (q - p))
-    unfolding place_after if◌then◌else◌ Roomy
+    unfolding place_after Roomy
     lines_more true g r next e = record { count = counting_more g.count (q - p) (line_len true g r) next e; place = (refl, lines_same true g r) }
     lines_more false g r next e = record { count = counting_more g.count (q - p) (line_len false g r) next e; place = going_more g.place r put next e }
 

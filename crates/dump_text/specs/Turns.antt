@@ -1,7 +1,6 @@
 -- One turn of the dump. This serves private functions.
-use Rattle.std.specs.Prelude.{ℕ, ◌≤◌, ◌≡◌, List, [], ◌∷◌, Bool, true, false, length}
+use Rattle.std.specs.Prelude.{ℕ, ◌≤◌, ◌≡◌, List, [], ◌∷◌, Bool, true, false, length, if◌then◌else◌}
 use Rattle.std.proofs.Math.Option.{Option, none, some}
-use Rattle.coding.specs.Words.{if◌then◌else◌}
 use Rattle.coding.specs.Bytes.{splice}
 use Rattle.coding.specs.Writing.{Put}
 use Rattle.packet.specs.Walk.{PacketStep, packet_step_at}

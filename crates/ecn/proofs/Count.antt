@@ -1,9 +1,10 @@
 -- What `more` says of a count, and what it makes of it; and where the counts start.
+use Rattle.std.specs.Prelude.{if◌then◌else◌}
 use mathlib.Core.Path.{◌≡◌, refl, ap, ◌∙◌}
 use mathlib.Core.Bool.{Bool, true, false, cond}
 use Prim.Native.Nat.{ℕ, ◌+◌, ◌-◌, ◌^◌}
 use lib.Dec.{ltb, eqb}
-use Rattle.coding.specs.Words.{if◌then◌else◌, no, ok}
+use Rattle.coding.specs.Words.{no, ok}
 use Rattle.coding.specs.declared.refusal.Refusal.TheVariants as ref
 use Rattle.ecn.specs.Counts.{zero_counts, count_said, count_of, counts_after}
 use Rattle.ecn.specs.Said.{more_of, raise_of}
@@ -12,7 +13,7 @@ use Rattle.ecn.specs.declared.Counted.{Counted}
 use Rattle.ecn.specs.declared.EcnCounts.{EcnCounts}
 
 pub more_count : (n : ℕ) (r : Counted) → r ≡ more_of n → r.count ≡ count_of n
-unfolding more_of count_of if◌then◌else◌
+unfolding more_of count_of
 more_count n r e = ap (λ (m : Counted). m.count) e ∙ go (ltb n (2 ^ 62 - 1))
   where
     made : Bool → Counted
@@ -23,7 +24,7 @@ more_count n r e = ap (λ (m : Counted). m.count) e ∙ go (ltb n (2 ^ 62 - 1))
     go false = refl
 
 pub more_said : (n : ℕ) (r : Counted) → r ≡ more_of n → raise_of r.answer ≡ count_said n
-unfolding more_of count_said raise_of if◌then◌else◌
+unfolding more_of count_said raise_of
 more_said n r e = ap (λ (m : Counted). raise_of m.answer) e ∙ go (ltb n (2 ^ 62 - 1))
   where
     made : Bool → Counted
@@ -35,7 +36,7 @@ more_said n r e = ap (λ (m : Counted). raise_of m.answer) e ∙ go (ltb n (2 ^ 
 
 -- the first mark, whichever it is, is one in all
 pub first_mark : (bits : ℕ) → let c = counts_after zero_counts bits in c.ect0 + c.ect1 + c.ce ≡ 1
-unfolding count_of if◌then◌else◌
+unfolding count_of
 first_mark bits = go (eqb bits 0b10) (eqb bits 0b01)
   where
     raised : Bool → Bool → EcnCounts

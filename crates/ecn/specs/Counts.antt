@@ -1,7 +1,7 @@
 -- ECN counts (RFC 9000, 13.4.1 and 19.3.2; document 01): the count of a mark is raised by one where it stands, the other two stay;
 -- at 2^62 - 1 or above it is refused 14, and nothing changes.
-use Rattle.std.specs.Prelude.{ℕ, ◌+◌, ◌-◌, cond, ltb, eqb}
-use Rattle.coding.specs.Words.{if◌then◌else◌, Answer, no, ok, number_end}
+use Rattle.std.specs.Prelude.{ℕ, ◌+◌, ◌-◌, cond, ltb, eqb, if◌then◌else◌}
+use Rattle.coding.specs.Words.{Answer, no, ok, number_end}
 use Rattle.ecn.specs.declared.EcnCounts.{EcnCounts}
 
 -- the counts before any mark was seen

@@ -1,6 +1,6 @@
 -- What each case of the code's answers says, in document 01's numbers and values.
-use Rattle.std.specs.Prelude.{ℕ, ◌+◌, ◌-◌, ltb}
-use Rattle.coding.specs.Words.{if◌then◌else◌, Answer, no, ok, number_end}
+use Rattle.std.specs.Prelude.{ℕ, ◌+◌, ◌-◌, ltb, if◌then◌else◌}
+use Rattle.coding.specs.Words.{Answer, no, ok, number_end}
 use Rattle.coding.specs.Refusals.{number_of}
 use Rattle.coding.specs.declared.refusal.Refusal.TheVariants as ref
 use Rattle.ecn.specs.declared.Raise.{Raise}

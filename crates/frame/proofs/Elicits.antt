@@ -1,7 +1,7 @@
 -- The closes, and the last arm of `is_ack_eliciting`: every kind that no arm before it names.
+use Rattle.std.specs.Prelude.{if◌then◌else◌}
 use mathlib.Core.Path.{◌≡◌, refl}
 use mathlib.Core.Bool.{true, false}
-use Rattle.coding.specs.Words.{if◌then◌else◌}
 use Rattle.frame.specs.declared.kinds.Ack.{Ack}
 use Rattle.frame.specs.declared.kinds.Close.{Close}
 use Rattle.frame.specs.declared.kinds.Close.TheVariants as close
@@ -11,12 +11,12 @@ use Rattle.frame.specs.Types.{ack_eliciting}
 use Rattle.frame.specs.Said.{close_said, frame_said}
 
 pub closes : (x : Close) → false ≡ ack_eliciting (close_said x)
-unfolding ack_eliciting if◌then◌else◌
+unfolding ack_eliciting
 closes (close.Connection x) = refl
 closes (close.Application x) = refl
 
 pub elicits : (f : Frame) → (f ≡ frame.Padding → ⊥) → ((x : Ack) → f ≡ frame.Ack x → ⊥) → ((x : Close) → f ≡ frame.Close x → ⊥) → true ≡ ack_eliciting (frame_said f)
-unfolding ack_eliciting if◌then◌else◌
+unfolding ack_eliciting
 elicits frame.Padding p a c = absurd (p refl)
 elicits frame.Ping p a c = refl
 elicits (frame.Ack x) p a c = absurd (a x refl)

@@ -1,10 +1,11 @@
 -- The lists of lemmas that a `search` at a return takes: those of a run of reads, and those of this crate's fields.
+use Rattle.std.specs.Prelude.{if◌then◌else◌}
 use mathlib.Core.Path.{◌≡◌, refl}
 use Prim.Native.Nat.{ℕ}
 use mathlib.Core.Bool.{Bool, true, false}
 use mathlib.Core.List.{List}
 use mathlib.Core.Option.{some}
-use Rattle.coding.specs.Words.{if◌then◌else◌, and_then}
+use Rattle.coding.specs.Words.{and_then}
 use Rattle.coding.specs.Refusals.{number_of}
 use Rattle.coding.specs.Said.{var_of, place_of}
 use Rattle.coding.specs.declared.Place.{Place}
@@ -67,12 +68,12 @@ module _ (x : FrameOutcome) (start t : ℕ) (r : Body) (b : Read Said) (e : body
 -- a field that goes by a bit of the type, as the code reads it
 module _ (s : List ℕ) (at : ℕ) (seen : List Value) (next : Value → ℕ → Read Said) where
   var_if_law : (b : Bool) → field_at (if b then var else const 0) s at seen next ≡ and_then (var_if b s at) (refuse 10) (λ v n. next (num v) n)
-  unfolding field_at var_if and_then if◌then◌else◌
+  unfolding field_at var_if and_then
   var_if_law true = refl
   var_if_law false = refl
 
   data_if_law : (b : Bool) → field_at (if b then bytes else rest) s at seen next ≡ and_then (data_if b s at) (refuse 10) (λ p n. next (place p) n)
-  unfolding field_at data_if if◌then◌else◌
+  unfolding field_at data_if
   data_if_law true = refl
   data_if_law false = refl
 

@@ -1,4 +1,5 @@
 -- What the answer of the block scan says of the field of ACK blocks.
+use Rattle.std.specs.Prelude.{if◌then◌else◌}
 use mathlib.Core.Path.{◌≡◌, sym, ◌∙◌}
 use mathlib.Core.List.{List}
 use mathlib.Core.Bool.{Bool, true, false}
@@ -6,7 +7,7 @@ use Prim.Native.Nat.{ℕ, ◌-◌, ◌≤◌, ◌<◌, ◌^◌}
 use native.Mathlib.Omega.{arith}
 use lib.ListN.{length}
 use lib.Dec.{ltb, leb}
-use Rattle.coding.specs.Words.{if◌then◌else◌, no, ok}
+use Rattle.coding.specs.Words.{no, ok}
 use Rattle.coding.specs.Refusals.{number_of}
 use Rattle.coding.specs.declared.Place.{Place}
 use Rattle.coding.specs.declared.refusal.Refusal.{Refusal}
@@ -19,7 +20,7 @@ use Rattle.frame.specs.Format.{Read, done, refuse, up_to}
 
 -- the scan ends at its start or past it
 pub scan_past : (s : List ℕ) (p largest n : ℕ) (r : Scanned) (next : ℕ) → scanned_of r ≡ scanned s p largest n → r ≡ scan.To next → p ≤ next
-unfolding scanned_of scanned if◌then◌else◌
+unfolding scanned_of scanned
 scan_past s p largest n r next e q = go (ltb 65527 (length s)) (leb (2 ^ 62) largest) (leb (2 ^ 62) n) (sym (rw q at e))
   where
     go : (l a b : Bool) → (if l then no 14 else if a then no 14 else if b then no 14 else scan_at s p largest n) ≡ ok next → p ≤ next

@@ -1,4 +1,5 @@
 -- Laws of the walk: repeating the step is the walk, and its turns are enough.
+use Rattle.std.specs.Prelude.{if◌then◌else◌}
 use mathlib.Core.Path.{◌≡◌, refl, sym, ap, ◌∙◌}
 use mathlib.Core.List.{List, [], ◌∷◌}
 use mathlib.Core.Bool.{Bool, true, false}
@@ -8,7 +9,6 @@ use native.Mathlib.Omega.{arith}
 use lib.ListN.{length}
 use lib.Dec.{ltb, leb, eqb}
 use borrow.Author.Tests.{ltb-false, leb-true, leb-false, eqb-false, le-ltb, le-leb, lt-leb, ne_eqb}
-use Rattle.coding.specs.Words.{if◌then◌else◌}
 use Rattle.frame.specs.Format.{Said}
 use Rattle.frame.specs.Table.{Row, FrameOutcome, taken, refused, frame_at}
 use Rattle.frame.specs.Walk.{onwards, walk_from, walk, frame, end, step_at, stepped, repeating}
@@ -22,12 +22,12 @@ on_alike s at (refused k start t) p f g h = refl
 
 module _ (rows : List Row) (s : List ℕ) where
   walk_end : (n at : ℕ) → length s ≤ at → walk_from rows s n at ≡ []
-  unfolding walk_from if◌then◌else◌
+  unfolding walk_from
   walk_end zero at h = refl
   walk_end (suc n) at h = simp (le-leb _ _ h)
 
   walk_one : (n at : ℕ) → at < length s → walk_from rows s (suc n) at ≡ (at, frame_at rows s at) ∷ onwards (frame_at rows s at) (walk_from rows s n)
-  unfolding walk_from if◌then◌else◌
+  unfolding walk_from
   walk_one n at h = simp (lt-leb _ _ h)
 
   -- a frame that was read is the walk's next, and the walk goes on past it
@@ -53,11 +53,11 @@ module _ (rows : List Row) (s : List ℕ) where
 
   module _ (some : 0 < length s) (fits : length s ≤ 65527) where
     step_end : (at : ℕ) → length s ≤ at → step_at rows s at ≡ end
-    unfolding step_at if◌then◌else◌
+    unfolding step_at
     step_end at h = let ne : length s ≡ 0 → ⊥ = λ z. omega arith in simp (le-ltb _ _ fits, ne_eqb _ _ ne, le-leb _ _ h)
 
     step_one : (at : ℕ) → at < length s → step_at rows s at ≡ frame (frame_at rows s at)
-    unfolding step_at if◌then◌else◌
+    unfolding step_at
     step_one at h = let ne : length s ≡ 0 → ⊥ = λ z. omega arith in simp (le-ltb _ _ fits, ne_eqb _ _ ne, lt-leb _ _ h)
 
     repeat_from : (n at : ℕ) → repeating rows n s at ≡ walk_from rows s n at
@@ -80,7 +80,7 @@ module _ (rows : List Row) (s : List ℕ) where
 
   -- the step repeated from place 0 on, as often as the payload has bytes or more, is the walk
   pub repeated : (n : ℕ) → length s ≤ n → repeating rows (suc n) s 0 ≡ walk rows s
-  unfolding walk if◌then◌else◌ repeating stepped step_at onwards
+  unfolding walk repeating stepped step_at onwards
   repeated n h = go (ltb 65527 (length s)) (eqb (length s) 0) refl refl
     where
       go : (a b : Bool) → ltb 65527 (length s) ≡ a → eqb (length s) 0 ≡ b

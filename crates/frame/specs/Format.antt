@@ -1,6 +1,6 @@
 -- What a frame is made of, and how a run of fields is read: RFC 9000, sections 12.4, 16 and 19.
-use Rattle.std.specs.Prelude.{ℕ, ◌-◌, ◌/◌, ◌%◌, List, [], ◌∷◌, Bool, length, ltb, eqb}
-use Rattle.coding.specs.Words.{if◌then◌else◌, Got, cut, got, and_then, Answer, no, ok}
+use Rattle.std.specs.Prelude.{ℕ, ◌-◌, ◌/◌, ◌%◌, List, [], ◌∷◌, Bool, length, ltb, eqb, if◌then◌else◌}
+use Rattle.coding.specs.Words.{Got, cut, got, and_then, Answer, no, ok}
 use Rattle.coding.specs.Reading.{fixed_at, take_at}
 use Rattle.coding.specs.Varint.{var_at}
 use Rattle.coding.specs.declared.Place.{Place}

@@ -1,7 +1,7 @@
 -- The frames: RFC 9000, section 19; RFC 9221 (30 and 31); the ACK frequency draft (1f and af).
-use Rattle.std.specs.Prelude.{ℕ, List, [], ◌∷◌, Bool, true, false, cond, leb}
+use Rattle.std.specs.Prelude.{ℕ, List, [], ◌∷◌, Bool, true, false, cond, leb, if◌then◌else◌}
 use Rattle.std.proofs.Math.Option.{Option, some, none}
-use Rattle.coding.specs.Words.{if◌then◌else◌, and_then}
+use Rattle.coding.specs.Words.{and_then}
 use Rattle.coding.specs.Varint.{var_at}
 use Rattle.frame.specs.Format.{Said, Field, var, or_none, at_most, bytes, rest, fixed, num64, cid, ack_blocks, const, absent, Read, done, refuse, fields_at, bit}
 

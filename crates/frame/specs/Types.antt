@@ -1,6 +1,5 @@
 -- What frame.rs says of a frame that is at hand: the type that stands for it, and whether it elicits an acknowledgement.
-use Rattle.std.specs.Prelude.{ℕ, zero, suc, ◌+◌, List, [], ◌∷◌, Bool, true, false, eqb}
-use Rattle.coding.specs.Words.{if◌then◌else◌}
+use Rattle.std.specs.Prelude.{ℕ, zero, suc, ◌+◌, List, [], ◌∷◌, Bool, true, false, eqb, if◌then◌else◌}
 use Rattle.frame.specs.Format.{Value, num, place, none, Said, said}
 
 -- the number among a frame's values at an index

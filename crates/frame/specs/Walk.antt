@@ -1,7 +1,7 @@
 -- The walk over a payload, frame after frame: RFC 9000, section 12.4; document 01, "Frames".
-use Rattle.std.specs.Prelude.{ℕ, zero, suc, ◌-◌, List, [], ◌∷◌, length, ltb, leb, eqb}
+use Rattle.std.specs.Prelude.{ℕ, zero, suc, ◌-◌, List, [], ◌∷◌, length, ltb, leb, eqb, if◌then◌else◌}
 use Rattle.std.proofs.Math.Option.{none}
-use Rattle.coding.specs.Words.{if◌then◌else◌, max_datagram}
+use Rattle.coding.specs.Words.{max_datagram}
 use Rattle.frame.specs.Table.{Row, FrameOutcome, taken, refused, frame_at}
 
 -- after a frame there is more from the place past it on; after a refusal there is nothing more

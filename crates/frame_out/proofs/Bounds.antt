@@ -1,5 +1,6 @@
 -- A stream frame and a datagram of any type are no longer than the bound of their last type, besides the data. Of the other frames
 -- `ReadBack` has it, in the field `short` of each law.
+use Rattle.std.specs.Prelude.{if◌then◌else◌}
 use mathlib.Core.Path.{◌≡◌, refl}
 use mathlib.Core.List.{List, [], ◌∷◌, ◌++◌}
 use mathlib.Core.Bool.{Bool, true, false}
@@ -7,7 +8,7 @@ use Prim.Native.Nat.{ℕ, ◌+◌, ◌-◌, ◌≤◌}
 use native.Mathlib.Omega.{arith}
 use lib.ListN.{length, length-append}
 use lib.Dec.{eqb}
-use Rattle.coding.specs.Words.{if◌then◌else◌, ok}
+use Rattle.coding.specs.Words.{ok}
 use Rattle.coding.specs.Varint.{var_tag, var_size}
 use Rattle.frame.specs.Table.{table, look}
 use Rattle.row_out.specs.Writing.{raw, fields_of}
@@ -21,7 +22,7 @@ abbrev allowed : ℕ → ℕ → ℕ → Bool → Bool → List ℕ → ℕ
 allowed t id start fin len d = bound_of table t + data_in (fields_of (look table t) t) (stream_words id start fin len ++ (raw d ∷ []))
 
 by_bits : (id start : ℕ) (d : List ℕ) (z fin len : Bool) → allowed (type_by z fin len) id start fin len d ≤ bound_of table 0x0f + length d
-unfolding bound_of table stream_words var_size var_tag if◌then◌else◌
+unfolding bound_of table stream_words var_size var_tag
 by_bits id start d true true true = omega arith
 by_bits id start d true true false = omega arith
 by_bits id start d true false true = omega arith
@@ -39,6 +40,6 @@ stream_bound bs d id start end fin len e n =
     omega (arith, r.short, by_bits id start d (eqb start 0) fin len, length-append bs d)
 
 pub datagram_bound : (bs d : List ℕ) (len : Bool) → datagram_out len d ≡ ok bs → length bs ≤ bound_of table 0x31 + length d
-unfolding bound_of table var_size var_tag if◌then◌else◌
+unfolding bound_of table var_size var_tag
 datagram_bound bs d true e = omega (arith, (datagram_read [] bs [] true d e (λ _. refl)).short)
 datagram_bound bs d false e = omega (arith, (datagram_read [] bs [] false d e (λ _. refl)).short)

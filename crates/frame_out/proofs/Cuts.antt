@@ -1,4 +1,5 @@
 -- The cases of a close: what max leaves of the reason, which arguments are refused, and its type.
+use Rattle.std.specs.Prelude.{if◌then◌else◌}
 use mathlib.Core.Path.{◌≡◌, refl, ap, ◌∙◌}
 use mathlib.Core.List.{List, [], ◌∷◌}
 use mathlib.Core.Bool.{Bool, true, false}
@@ -7,7 +8,7 @@ use native.Mathlib.Omega.{arith}
 use lib.ListN.{length, take, get_or, length-take}
 use lib.Dec.{ltb, leb}
 use borrow.Author.Tests.{ltb-true, leb-true, lt-ltb, le-ltb, le-leb, lt-leb}
-use Rattle.coding.specs.Words.{if◌then◌else◌, Answer, no, ok}
+use Rattle.coding.specs.Words.{Answer, no, ok}
 use Rattle.coding.specs.Refusals.{number_of}
 use Rattle.coding.specs.Said.{sized_of}
 use Rattle.coding.specs.Writing.{length_of}
@@ -30,21 +31,21 @@ take_again (suc k) (x ∷ l) = ap (λ (r : List ℕ). x ∷ r) (take_again k l)
 
 module _ (fixed max : ℕ) (reason : List ℕ) where
   pub cut_past : 2 ^ 62 ≤ length reason → reason_cut fixed max reason ≡ no 14
-  unfolding reason_cut if◌then◌else◌
+  unfolding reason_cut
   cut_past h = rw (le-ltb (length reason) (2 ^ 62) h)
 
   module _ (small : length reason < 2 ^ 62) where
     pub cut_short : max < fixed → reason_cut fixed max reason ≡ no 14
-    unfolding reason_cut if◌then◌else◌
+    unfolding reason_cut
     cut_short h = rw (lt-ltb (length reason) (2 ^ 62) small, lt-leb fixed max h)
 
     pub cut_some : fixed ≤ max → reason_cut fixed max reason ≡ ok (take (max - fixed) reason)
-    unfolding reason_cut if◌then◌else◌
+    unfolding reason_cut
     cut_some h = rw (lt-ltb (length reason) (2 ^ 62) small, le-leb fixed max h)
 
   -- what holds of each way holds of the cut
   cut_all : (P : Answer (List ℕ) → Type 0) → P (no 14) → ((k : ℕ) → P (ok (take k reason))) → P (reason_cut fixed max reason)
-  unfolding reason_cut if◌then◌else◌
+  unfolding reason_cut
   cut_all P z f = go (ltb (length reason) (2 ^ 62)) (leb fixed max)
     where
       go : (t u : Bool) → P (if t then (if u then ok (take (max - fixed) reason) else no 14) else no 14)
@@ -75,7 +76,7 @@ module _ (fixed max : ℕ) (reason : List ℕ) where
 
   -- what was cut
   pub cut_seen : (d : List ℕ) → reason_cut fixed max reason ≡ ok d → ((length reason < 2 ^ 62) × (fixed ≤ max)) × (d ≡ take (max - fixed) reason)
-  unfolding reason_cut if◌then◌else◌
+  unfolding reason_cut
   cut_seen d = go (ltb (length reason) (2 ^ 62)) (leb fixed max) refl refl
     where
       go : (t u : Bool) → ltb (length reason) (2 ^ 62) ≡ t → leb fixed max ≡ u → (if t then (if u then ok (take (max - fixed) reason) else no 14) else no 14) ≡ ok d
@@ -139,6 +140,6 @@ close_words (connection code ty) d = number code ∷ ty ∷ raw d ∷ []
 close_words (application code) d = number code ∷ raw d ∷ []
 
 pub layer_type : (c : Closing) (d : List ℕ) → close_with c (ok d) ≡ frame_out table (if is_connection c then 0x1c else 0x1d) (close_words c d)
-unfolding close_with if◌then◌else◌
+unfolding close_with
 layer_type (connection code ty) d = refl
 layer_type (application code) d = refl

@@ -1,5 +1,6 @@
 -- What each encoder wrote is handed out by the step as its words, wherever it stands, behind p and before q, and is no longer than
 -- its bound.
+use Rattle.std.specs.Prelude.{if◌then◌else◌}
 use mathlib.Core.Path.{◌≡◌, refl, sym, ap, ◌∙◌}
 use mathlib.Core.List.{List, [], ◌∷◌, ◌++◌, append_assoc, append-nil}
 use mathlib.Core.Bool.{Bool, true, false}
@@ -8,7 +9,7 @@ use native.Mathlib.Omega.{arith}
 use lib.ListN.{length, take}
 use lib.Dec.{eqb}
 use borrow.Author.Tests.{eqb-true}
-use Rattle.coding.specs.Words.{if◌then◌else◌, ok}
+use Rattle.coding.specs.Words.{ok}
 use Rattle.coding.specs.Varint.{var_bytes}
 use Rattle.shared.specs.Cid.{cid_bytes, long_bytes}
 use Rattle.shared.specs.declared.cid.ConnectionId.{ConnectionId}
@@ -66,7 +67,7 @@ module _ (p bs q : List ℕ) where
   -- without a length it is the last of its payload
   pub datagram_read : (len : Bool) (d : List ℕ) → datagram_out len d ≡ ok bs → (len ≡ false → q ≡ [])
       → ReadAs table (0x30 + flag len) 0x30 (number (flag len) ∷ raw d ∷ []) p bs q
-  unfolding datagram_out table row_bytes if◌then◌else◌
+  unfolding datagram_out table row_bytes
   datagram_read true d e h =
       let ys : List ℕ = 0x31 ∷ length d ∷ [] in
       out_read table 0x31 _ _ ys d bs p q (datagram_vals_law true d) e refl (omega arith) (λ b. (refl, (below_at ys 1 b (omega arith), tt)))
@@ -118,7 +119,7 @@ module _ (p d q : List ℕ) (id start : ℕ) (id-small : id < 2 ^ 62) (start_sma
 
   by_bits : (z fin len : Bool) → (z ≡ true → start ≡ 0) → (len ≡ false → q ≡ [])
       → ReadAs table (type_by z fin len) 0x08 (words fin len) p (frame_bytes table (type_by z fin len) (words fin len)) q
-  unfolding table stream_words row_bytes if◌then◌else◌
+  unfolding table stream_words row_bytes
   by_bits true true true e h =
       read_as table 0x0b _ (words true true) p q refl (omega arith)
       (id-small, (zero_start (e refl), (refl, (refl, (data-small, tt)))))
@@ -148,7 +149,7 @@ module _ (p d q : List ℕ) (id start : ℕ) (id-small : id < 2 ^ 62) (start_sma
   whole : (z fin len : Bool)
       → (frame_bytes table (type_by z fin len) (stream_words id start fin len) ++ (if len then var_bytes (length d) else [])) ++ d
       ≡ frame_bytes table (type_by z fin len) (words fin len)
-  unfolding table stream_words frame_bytes row_bytes field_bytes if◌then◌else◌
+  unfolding table stream_words frame_bytes row_bytes field_bytes
   whole true true true = simp (append_assoc, append-nil)
   whole true true false = simp (append_assoc, append-nil)
   whole true false true = simp (append_assoc, append-nil)

@@ -1,4 +1,5 @@
 -- A close is never longer than its max, and is refused for its max exactly where the fields beside the reason take more.
+use Rattle.std.specs.Prelude.{if◌then◌else◌}
 use mathlib.Core.Path.{◌≡◌, refl, sym, ◌∙◌}
 use mathlib.Core.Logic.{◌↔◌}
 use mathlib.Core.List.{List, [], ◌∷◌, ◌++◌}
@@ -9,7 +10,7 @@ use native.Mathlib.Omega.{arith}
 use lib.ListN.{length, take, length-append, length-take}
 use lib.Dec.{ltb}
 use borrow.Author.Tests.{ltb-true, ltb-false, lt-ltb}
-use Rattle.coding.specs.Words.{if◌then◌else◌, no, ok}
+use Rattle.coding.specs.Words.{no, ok}
 use Rattle.coding.specs.Varint.{var_tag, var_size}
 use Rattle.coding.proofs.Laws.{fits_tag, length_var, size_le, size_pos}
 use Rattle.frame.specs.Table.{table}
@@ -24,7 +25,7 @@ use Rattle.frame_out.proofs.Cuts.{cut_short, cut_some, close_vals, close_vals_la
 
 -- the tag is the least that holds x
 tag_least : (x k : ℕ) → x < 2 ^ (8 * 2 ^ k - 2) → var_tag x ≤ k
-unfolding var_tag if◌then◌else◌
+unfolding var_tag
 tag_least x zero h = rw (lt-ltb x (2 ^ 6) h) (omega arith)
 tag_least x (suc zero) h = rw (lt-ltb x (2 ^ 14) h) (go (ltb x (2 ^ 6)))
   where
@@ -56,7 +57,7 @@ size_mono x y h k = size_least x (var_tag y) (omega (arith, fits_tag y k))
 -- ---- the sum
 
 type_sizes : (var_size 0x1c ≡ 1) × (var_size 0x1d ≡ 1)
-unfolding var_size var_tag if◌then◌else◌
+unfolding var_size var_tag
 type_sizes = (refl, refl)
 
 -- it is what the integers of a close take, with the length of a reason of n bytes
@@ -67,7 +68,7 @@ fixed_bytes (application code) n = simp (length-append, length_var) (omega (arit
 
 -- with integers below 2^62 it is no more than the bound of the close's row
 pub bound_enough : (c : Closing) (n : ℕ) → below62 (close_vals c n) ≡ true → fixed_fields c n ≤ bound_of table (if is_connection c then 0x1c else 0x1d)
-unfolding fixed_fields bound_of table if◌then◌else◌
+unfolding fixed_fields bound_of table
 bound_enough (connection code ty) n b =
     let ys : List ℕ = 0x1c ∷ code ∷ word_number ty ∷ n ∷ [] in
     let a = size_le code (below_at ys 1 b (omega arith)) in

@@ -1,4 +1,5 @@
 -- What each encoder's code hands on, integers and then bytes, makes the bytes of its row.
+use Rattle.std.specs.Prelude.{if◌then◌else◌}
 use mathlib.Core.Path.{◌≡◌, refl}
 use mathlib.Core.List.{List, [], ◌∷◌, ◌++◌, append_assoc, append-nil}
 use mathlib.Core.Bool.{Bool, true, false}
@@ -7,7 +8,7 @@ use native.Mathlib.Omega.{arith}
 use lib.ListN.{length, length-append}
 use lib.Dec.{ltb, eqb}
 use borrow.Author.Tests.{ltb-false, eqb-false, lt-ltb, le-ltb, ne_eqb}
-use Rattle.coding.specs.Words.{if◌then◌else◌, no, ok}
+use Rattle.coding.specs.Words.{no, ok}
 use Rattle.coding.specs.Varint.{var_bytes}
 use Rattle.coding.specs.Writing.{Put}
 use Rattle.coding.proofs.Writes.{So, put_so, so_put}
@@ -25,23 +26,23 @@ unfolding ecn_out row_bytes field_bytes vars_bytes
 ecn_vals a b c = vals_same _ _ _ _ (simp (append_assoc, append-nil)) (λ h. refl)
 
 pub crypto_vals : (offset : ℕ) (d : List ℕ) → crypto_out offset d ≡ vars_out (0x06 ∷ offset ∷ length d ∷ []) d
-unfolding crypto_out frame_out frame_bytes table row_bytes field_bytes word_numbers vars_bytes below62 if◌then◌else◌
+unfolding crypto_out frame_out frame_bytes table row_bytes field_bytes word_numbers vars_bytes below62
 crypto_vals offset d = vals_same _ _ _ _ (simp (append_assoc, append-nil)) (λ h. rw (lt-ltb (length d) (2 ^ 62) (omega arith)))
 
 pub token_vals : (d : List ℕ) → new_token_out d ≡ vars_out (0x07 ∷ length d ∷ []) d
-unfolding new_token_out frame_out frame_bytes table row_bytes field_bytes word_numbers vars_bytes below62 if◌then◌else◌
+unfolding new_token_out frame_out frame_bytes table row_bytes field_bytes word_numbers vars_bytes below62
 token_vals d = vals_same _ _ _ _ (simp (append_assoc, append-nil)) (λ h. rw (lt-ltb (length d) (2 ^ 62) (omega arith)))
 
 pub reset_vals : (id code size : ℕ) → reset_stream_out id code size ≡ vars_out (0x04 ∷ id ∷ code ∷ size ∷ []) []
-unfolding reset_stream_out frame_out frame_bytes table row_bytes field_bytes word_numbers vars_bytes below62 if◌then◌else◌
+unfolding reset_stream_out frame_out frame_bytes table row_bytes field_bytes word_numbers vars_bytes below62
 reset_vals id code size = vals_same _ _ _ _ (simp (append_assoc, append-nil)) (λ h. refl)
 
 pub stop_vals : (id code : ℕ) → stop_sending_out id code ≡ vars_out (0x05 ∷ id ∷ code ∷ []) []
-unfolding stop_sending_out frame_out frame_bytes table row_bytes field_bytes word_numbers vars_bytes below62 if◌then◌else◌
+unfolding stop_sending_out frame_out frame_bytes table row_bytes field_bytes word_numbers vars_bytes below62
 stop_vals id code = vals_same _ _ _ _ (simp (append_assoc, append-nil)) (λ h. refl)
 
 pub frequency_vals : (a b c d : ℕ) → ack_frequency_out a b c d ≡ vars_out (0xaf ∷ a ∷ b ∷ c ∷ d ∷ []) []
-unfolding ack_frequency_out frame_out frame_bytes table row_bytes field_bytes word_numbers vars_bytes below62 if◌then◌else◌
+unfolding ack_frequency_out frame_out frame_bytes table row_bytes field_bytes word_numbers vars_bytes below62
 frequency_vals a b c d = vals_same _ _ _ _ (simp (append_assoc, append-nil)) (λ h. refl)
 
 -- ---- a datagram, with its length and without
@@ -51,7 +52,7 @@ datagram_vals true n = 0x31 ∷ n ∷ []
 datagram_vals false n = 0x30 ∷ []
 
 pub datagram_vals_law : (len : Bool) (d : List ℕ) → datagram_out len d ≡ vars_out (datagram_vals len (length d)) d
-unfolding datagram_out frame_out frame_bytes table row_bytes field_bytes word_numbers vars_bytes below62 if◌then◌else◌
+unfolding datagram_out frame_out frame_bytes table row_bytes field_bytes word_numbers vars_bytes below62
 datagram_vals_law true d = vals_same _ _ _ _ (simp (append_assoc, append-nil)) (λ h. rw (lt-ltb (length d) (2 ^ 62) (omega arith)))
 datagram_vals_law false d = vals_same _ _ _ _ (simp append-nil) (λ h. refl)
 
@@ -59,13 +60,13 @@ datagram_vals_law false d = vals_same _ _ _ _ (simp append-nil) (λ h. refl)
 
 pub connection_vals : (code : ℕ) (ty : Word) (d : List ℕ)
     → frame_out table 0x1c (number code ∷ ty ∷ raw d ∷ []) ≡ vars_out (0x1c ∷ code ∷ word_number ty ∷ length d ∷ []) d
-unfolding frame_out frame_bytes table row_bytes field_bytes word_numbers vars_bytes below62 if◌then◌else◌
+unfolding frame_out frame_bytes table row_bytes field_bytes word_numbers vars_bytes below62
 connection_vals code (number n) d = vals_same _ _ _ _ (simp (append_assoc, append-nil)) (λ h. rw (lt-ltb (length d) (2 ^ 62) (omega arith)))
 connection_vals code (raw bs) d = vals_same _ _ _ _ (simp (append_assoc, append-nil)) (λ h. rw (lt-ltb (length d) (2 ^ 62) (omega arith)))
 connection_vals code nothing d = vals_same _ _ _ _ (simp (append_assoc, append-nil)) (λ h. rw (lt-ltb (length d) (2 ^ 62) (omega arith)))
 
 pub application_vals : (code : ℕ) (d : List ℕ) → frame_out table 0x1d (number code ∷ raw d ∷ []) ≡ vars_out (0x1d ∷ code ∷ length d ∷ []) d
-unfolding frame_out frame_bytes table row_bytes field_bytes word_numbers vars_bytes below62 if◌then◌else◌
+unfolding frame_out frame_bytes table row_bytes field_bytes word_numbers vars_bytes below62
 application_vals code d = vals_same _ _ _ _ (simp (append_assoc, append-nil)) (λ h. rw (lt-ltb (length d) (2 ^ 62) (omega arith)))
 
 -- ---- a stream frame up to its data
@@ -81,16 +82,16 @@ unless false x = x ∷ []
 -- an end below its start, or past its limit, is refused
 module _ (id start end : ℕ) (fin len : Bool) where
   pub meta_below : end < start → meta_out id start end fin len ≡ no 14
-  unfolding meta_out if◌then◌else◌
+  unfolding meta_out
   meta_below h = rw (lt-ltb end start h)
 
   pub meta_past : start ≤ end → 2 ^ 62 ≤ end → meta_out id start end fin len ≡ no 14
-  unfolding meta_out if◌then◌else◌
+  unfolding meta_out
   meta_past h k = rw (le-ltb end start h) (limited_past _ _ (below_not (id ∷ end ∷ []) 1 (omega arith) k))
 
   -- what was written keeps both rules
   pub meta_seen : (bs : List ℕ) → meta_out id start end fin len ≡ ok bs → (start ≤ end) × (id < 2 ^ 62) × (end < 2 ^ 62) × (meta_bytes id start end fin len ≡ bs)
-  unfolding meta_out if◌then◌else◌
+  unfolding meta_out
   meta_seen bs = go (ltb end start) refl
     where
       go : (t : Bool) → ltb end start ≡ t → (if t then no 14 else limited (id ∷ end ∷ []) (meta_bytes id start end fin len)) ≡ ok bs
@@ -117,7 +118,7 @@ module _ (id start end : ℕ) (ordered : start ≤ end) (small : end < 2 ^ 62) w
   by_bits : (z fin len : Bool)
       → limited (id ∷ end ∷ []) (frame_bytes table (type_by z fin len) (stream_words id start fin len) ++ (if len then var_bytes (end - start) else []))
       ≡ vars_out (type_by z fin len ∷ id ∷ (unless z start ++ when len (end - start))) []
-  unfolding stream_words frame_bytes table row_bytes field_bytes vars_bytes below62 if◌then◌else◌
+  unfolding stream_words frame_bytes table row_bytes field_bytes vars_bytes below62
   by_bits true true true = vals_same _ _ _ _ (simp (append_assoc, append-nil)) (λ h. simp (end_fits, len_fits))
   by_bits true true false = vals_same _ _ _ _ (simp (append_assoc, append-nil)) (λ h. simp end_fits)
   by_bits true false true = vals_same _ _ _ _ (simp (append_assoc, append-nil)) (λ h. simp (end_fits, len_fits))
@@ -129,7 +130,7 @@ module _ (id start end : ℕ) (ordered : start ≤ end) (small : end < 2 ^ 62) w
 
   meta_vals : (z fin len : Bool) → eqb start 0 ≡ z
       → meta_out id start end fin len ≡ vars_out (stream_type start fin len ∷ id ∷ (unless z start ++ when len (end - start))) []
-  unfolding meta_out meta_bytes stream_type if◌then◌else◌
+  unfolding meta_out meta_bytes stream_type
   meta_vals z fin len e = rw (le-ltb end start ordered, e) (by_bits z fin len)
 
   -- as the code has them: the type by what was answered, the length by what was seen
@@ -141,17 +142,17 @@ module _ (id start end : ℕ) (ordered : start ≤ end) (small : end < 2 ^ 62) w
 
 module _ (sequence retire : ℕ) (id : ConnectionId) (token : List ℕ) (ordered : retire ≤ sequence) (some : id.len ≡ 0 → ⊥) (short : id.len ≤ 20) where
   pub cid_frame : new_cid_out sequence retire id token ≡ frame_out table 0x18 (number sequence ∷ number retire ∷ raw (cid_bytes id) ∷ raw token ∷ [])
-  unfolding new_cid_out if◌then◌else◌
+  unfolding new_cid_out
   cid_frame = rw (le-ltb sequence retire ordered, ne_eqb id.len 0 some, le-ltb 20 id.len short)
 
   pub cid_vals : length (cid_bytes id) ≡ id.len → new_cid_out sequence retire id token ≡ vars_out (0x18 ∷ sequence ∷ retire ∷ []) (long_bytes id ++ token)
-  unfolding long_bytes frame_out frame_bytes table row_bytes field_bytes word_numbers vars_bytes below62 if◌then◌else◌
+  unfolding long_bytes frame_out frame_bytes table row_bytes field_bytes word_numbers vars_bytes below62
   cid_vals e = rw (cid_frame, e) (vals_same _ _ _ _ (simp (append_assoc, append-nil)) (λ q. refl))
 
 -- what was written keeps all rules
 pub cid_seen : (sequence retire : ℕ) (id : ConnectionId) (token bs : List ℕ) → new_cid_out sequence retire id token ≡ ok bs
     → (retire ≤ sequence) × ((id.len ≡ 0 → ⊥) × (id.len ≤ 20))
-unfolding new_cid_out if◌then◌else◌
+unfolding new_cid_out
 cid_seen sequence retire id token bs = go (ltb sequence retire) (eqb id.len 0) (ltb 20 id.len) refl refl refl
   where
     go : (t u v : Bool) → ltb sequence retire ≡ t → eqb id.len 0 ≡ u → ltb 20 id.len ≡ v

@@ -1,7 +1,7 @@
 -- What each encoder writes, by the table of frames: document 01, "Encoders"; RFC 9000, section 19; RFC 9221; the ACK frequency
 -- draft. An integer past 2^62 - 1 and a frame past 65,527 bytes are 14 (`frame_out`).
-use Rattle.std.specs.Prelude.{ℕ, ◌+◌, ◌-◌, List, [], ◌∷◌, ◌++◌, Bool, true, ltb, eqb}
-use Rattle.coding.specs.Words.{if◌then◌else◌, Answer, no}
+use Rattle.std.specs.Prelude.{ℕ, ◌+◌, ◌-◌, List, [], ◌∷◌, ◌++◌, Bool, true, ltb, eqb, if◌then◌else◌}
+use Rattle.coding.specs.Words.{Answer, no}
 use Rattle.coding.specs.Varint.{var_bytes}
 use Rattle.shared.specs.Cid.{max_cid, cid_bytes}
 use Rattle.shared.specs.declared.cid.ConnectionId.{ConnectionId}

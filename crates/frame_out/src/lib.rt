@@ -5,8 +5,7 @@
 mod closes; // closes.rt: the closes
 mod codec; // codec.rt: a frame's type, a stream id, an error code by themselves
 
-ghost use Rattle.std.specs.Prelude.{◌≡◌, ◌++◌, ◌≤◌, length, eqb};
-ghost use Rattle.coding.specs.Words.{if◌then◌else◌};
+ghost use Rattle.std.specs.Prelude.{◌≡◌, ◌++◌, ◌≤◌, length, eqb, if◌then◌else◌};
 ghost use Rattle.coding.specs.Said.{sized_of, wrote_of};
 ghost use Rattle.coding.specs.Writing.{length_of, Written};
 ghost use Rattle.shared.specs.Cid.{max_cid, long_bytes};

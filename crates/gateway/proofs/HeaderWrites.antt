@@ -1,10 +1,11 @@
 -- The ways a header write ends, each from the tests that lead to it.
+use Rattle.std.specs.Prelude.{if◌then◌else◌}
 use Prim.Native.Nat.{ℕ}
 use mathlib.Core.Path.{◌≡◌, ap, ◌∙◌}
 use mathlib.Core.List.{List}
 use mathlib.Core.Bool.{true, false}
 use lib.ListN.{length}
-use Rattle.coding.specs.Words.{if◌then◌else◌, Answer, no}
+use Rattle.coding.specs.Words.{Answer, no}
 use Rattle.coding.specs.Writing.{in_room, length_of, into_buffer}
 use Rattle.shared.specs.Cid.{cid_of}
 use Rattle.packet_out.specs.Encoding.{Plain, Partial, partial_of, EncodesAs}
@@ -24,10 +25,10 @@ module _ (p : Plain) {w : Answer (List ℕ)} (old : List ℕ) where
 
 module _ (h : HeaderGiven) (dst src token : List ℕ) (n : ℕ) where
   pub for_no : given_outside h (length dst) (length src) (length token) n ≡ true → header_for h dst src token n ≡ no 14
-  unfolding header_for if◌then◌else◌
+  unfolding header_for
   for_no e = rw e
 
   pub for_ok : given_outside h (length dst) (length src) (length token) n ≡ false
       → header_for h dst src token n ≡ header_with (plain_for h) (cid_of dst) (cid_of src) token n
-  unfolding header_for if◌then◌else◌
+  unfolding header_for
   for_ok e = rw e

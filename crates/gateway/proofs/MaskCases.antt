@@ -1,4 +1,5 @@
 -- The cases of unmask and mask over the surface, each from the tests that lead to it.
+use Rattle.std.specs.Prelude.{if◌then◌else◌}
 use Prim.Native.Nat.{ℕ, ◌≤◌, ◌<◌}
 use mathlib.Core.Path.{◌≡◌, refl, sym, ap, ◌∙◌}
 use mathlib.Core.List.{List, [], ◌∷◌}
@@ -6,7 +7,7 @@ use native.Mathlib.Omega.{arith}
 use lib.ListN.{length, get_or}
 use lib.Dec.{eqb}
 use borrow.Author.Tests.{lt-ltb, le-ltb, eq-eqb, ne_eqb}
-use Rattle.coding.specs.Words.{if◌then◌else◌, Answer, no}
+use Rattle.coding.specs.Words.{Answer, no}
 use Rattle.protect.specs.Steps.{left_by, read_off, Changed, Opened, finish_at, finished, only_done, mask_at}
 use Rattle.gateway.specs.Arguments.{long_kind, numbered_kind, number_given}
 use Rattle.gateway.specs.Packets.{not_opened, unmask_record, in_mask, unmask_at, UnmasksPacket, mask_record, mask_for, MasksPacket}
@@ -26,16 +27,16 @@ five_all (a ∷ b ∷ c ∷ d ∷ f ∷ g ∷ l) e = absurd (omega (arith, e))
 
 module _ (kind : ℕ) (s : List ℕ) (at : ℕ) (mask : List ℕ) where
   pub unmask_kind : 5 < kind → unmask_at kind s at mask ≡ no 14
-  unfolding unmask_at if◌then◌else◌
+  unfolding unmask_at
   unmask_kind h = rw (lt-ltb 5 kind h)
 
   module _ (h : kind ≤ 5) where
     pub unmask_mask : (length mask ≡ 5 → ⊥) → unmask_at kind s at mask ≡ no 14
-    unfolding unmask_at in_mask if◌then◌else◌
+    unfolding unmask_at in_mask
     unmask_mask k = rw (le-ltb 5 kind h, ne_eqb (length mask) 5 k)
 
     pub unmask_ok : length mask ≡ 5 → unmask_at kind s at mask ≡ finish_at (numbered_kind kind) (long_kind kind) s at mask
-    unfolding unmask_at in_mask if◌then◌else◌
+    unfolding unmask_at in_mask
     unmask_ok k = rw (le-ltb 5 kind h, eq-eqb (length mask) 5 k)
 
   pub unmask_no : {k : ℕ} → unmask_at kind s at mask ≡ no k → UnmasksPacket kind s at mask (not_opened k) s
@@ -54,16 +55,16 @@ module _ (kind : ℕ) (s : List ℕ) (at : ℕ) (mask : List ℕ) where
 
 module _ (header_len numberLen has_length : ℕ) (s mask : List ℕ) where
   pub mask_flag : 1 < has_length → mask_for header_len numberLen has_length s mask ≡ no 14
-  unfolding mask_for if◌then◌else◌
+  unfolding mask_for
   mask_flag h = rw (lt-ltb 1 has_length h)
 
   module _ (h : has_length ≤ 1) where
     pub mask_mask : (length mask ≡ 5 → ⊥) → mask_for header_len numberLen has_length s mask ≡ no 14
-    unfolding mask_for in_mask if◌then◌else◌
+    unfolding mask_for in_mask
     mask_mask k = rw (le-ltb 1 has_length h, ne_eqb (length mask) 5 k)
 
     pub mask_ok : length mask ≡ 5 → mask_for header_len numberLen has_length s mask ≡ mask_at header_len (number_given numberLen) (eqb has_length 1) s mask
-    unfolding mask_for in_mask if◌then◌else◌
+    unfolding mask_for in_mask
     mask_ok k = rw (le-ltb 1 has_length h, eq-eqb (length mask) 5 k)
 
   pub mask_no : {k : ℕ} → mask_for header_len numberLen has_length s mask ≡ no k → MasksPacket header_len numberLen has_length s mask k s

@@ -1,11 +1,12 @@
 -- A step of the number ends over the surface is the call on the record of three itself: what it says and what it leaves are given back.
 -- Of the spaces that it does not name, nothing is looked at, and they come back as they came.
+use Rattle.std.specs.Prelude.{if◌then◌else◌}
 use Prim.Native.Nat.{ℕ}
 use mathlib.Core.Path.{◌≡◌, refl, ap, ◌∙◌}
 use mathlib.Core.Bool.{Bool, true, false}
 use mathlib.Core.Option.{Option, none, some}
 use borrow.Author.Tests.{ne_eqb}
-use Rattle.coding.specs.Words.{if◌then◌else◌, Answer, no, ok}
+use Rattle.coding.specs.Words.{Answer, no, ok}
 use Rattle.coding.proofs.Numbers.{Refuses}
 use Rattle.number.proofs.Refusing.{send_refuses, acknowledge_refuses, accept_refuses, read_refuses}
 use Rattle.number.specs.Cutting.{cut}
@@ -26,7 +27,7 @@ use Rattle.gateway.specs.declared.records.NumberAnswer.{NumberAnswer}
 -- ---- the ends of one space
 
 so_far_back : (x : SoFar) → so_far (has_of x) (base_of x) ≡ x
-unfolding base_of if◌then◌else◌
+unfolding base_of
 so_far_back nothing = refl
 so_far_back (at n) = refl
 
@@ -56,7 +57,6 @@ module _ {A : Type 0} (say : A → Numbers) (back : NumberAnswer → A) (given_b
   module _ (f : NumberEnds → Told NumberEnds Numbers) (g : Ends → Told Ends A) (x : NumberSpaces) where
     in_space : (s : SpaceId) → AsCall say (f (of (each_in x) s)) (g (ends_in (of (each_in x) s)))
         → call_back back (record_of (lifted f (some s) (each_in x))) ≡ lifted g (some s) (spaces_in x)
-    unfolding if◌then◌else◌
     in_space s h = go (g (ends_in (of (each_in x) s))).says refl h.refuses
       where
         said : {b : Answer A} → (g (ends_in (of (each_in x) s))).says ≡ b → (g (of (spaces_in x) s)).says ≡ b
@@ -71,7 +71,7 @@ module _ {A : Type 0} (say : A → Numbers) (back : NumberAnswer → A) (given_b
 
     in_any : (o : Option SpaceId) → ((s : SpaceId) → o ≡ some s → AsCall say (f (of (each_in x) s)) (g (ends_in (of (each_in x) s))))
         → call_back back (record_of (lifted f o (each_in x))) ≡ lifted g o (spaces_in x)
-    unfolding lifted if◌then◌else◌
+    unfolding lifted
     in_any none h = refl
     in_any (some s) h = in_space s (h s refl)
 
@@ -79,19 +79,15 @@ module _ {A : Type 0} (say : A → Numbers) (back : NumberAnswer → A) (given_b
 
 module _ (e : NumberEnds) (n len value : ℕ) (u : unkept e ≡ false) where
   one_sends : AsCall (λ (p : Packet). numbers p.number p.carries.0 p.carries.1) (one_step 0 n len value e) (send_call (ends_in e))
-  unfolding if◌then◌else◌
   one_sends = rw u (record { says = refl; leaves = ends_back _; refuses = send_refuses (ends_in e) })
 
   one_acknowledges : AsCall (λ (_ : Unit {0}). numbers 0 0 0) (one_step 1 n len value e) (acknowledge_call n (ends_in e))
-  unfolding if◌then◌else◌
   one_acknowledges = rw u (record { says = refl; leaves = ends_back _; refuses = acknowledge_refuses (ends_in e) n })
 
   one_reads : AsCall (λ (m : ℕ). numbers m 0 0) (one_step 2 n len value e) (read_call (cut len value) (ends_in e))
-  unfolding if◌then◌else◌
   one_reads = rw u (record { says = refl; leaves = refl; refuses = read_refuses (ends_in e) (cut len value) })
 
   one_accepts : AsCall (λ (_ : Unit {0}). numbers 0 0 0) (one_step 3 n len value e) (accept_call n (ends_in e))
-  unfolding if◌then◌else◌
   one_accepts = rw u (record { says = refl; leaves = ends_back _; refuses = accept_refuses (ends_in e) n })
 
 pub steps_as : StepIsCall
@@ -117,7 +113,6 @@ refused_same p x h = go (lifted (one p) (names p) (each_in x)).says refl
     go (ok a) r = absurd (h (ap refusal_in r))
 
 read_leaves : (n len value : ℕ) (e : NumberEnds) → (one_step 2 n len value e).leaves ≡ e
-unfolding if◌then◌else◌
 read_leaves n len value e = go (unkept e) refl
   where
     go : (b : Bool) → unkept e ≡ b → (one_step 2 n len value e).leaves ≡ e

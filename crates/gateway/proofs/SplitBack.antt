@@ -1,4 +1,5 @@
 -- A record of split gives back what the step of the walk says, and all that it names lies in the packet.
+use Rattle.std.specs.Prelude.{if◌then◌else◌}
 use mathlib.Core.Path.{◌≡◌, refl, sym, ◌∙◌}
 use mathlib.Core.List.{List, []}
 use mathlib.Core.Bool.{Bool, true, false}
@@ -8,7 +9,7 @@ use native.Mathlib.Omega.{arith}
 use lib.ListN.{length, drop, length-drop}
 use lib.Dec.{ltb, eqb}
 use borrow.Author.Tests.{le-leb, ne_eqb, eqb-true, eqb-false, leb-false}
-use Rattle.coding.specs.Words.{if◌then◌else◌, Answer, no, ok}
+use Rattle.coding.specs.Words.{Answer, no, ok}
 use Rattle.coding.specs.Places.{part_of}
 use Rattle.coding.specs.Reading.{take_at}
 use Rattle.coding.proofs.Rules.{if_all, then_all}
@@ -28,7 +29,7 @@ use Rattle.gateway.proofs.Stands.{Stand, Stands, refuse_stands, header_stands}
 -- ---- the records
 
 none_back : (s : List ℕ) → cid_of (part_of s (record { start = 0; len = 0 })) ≡ cid_of []
-unfolding part_of if◌then◌else◌
+unfolding part_of
 none_back s = rw (le-leb 0 (length s) (omega arith))
 
 -- of a header, for a packet of len bytes or a refusal
@@ -40,7 +41,6 @@ module _ (s : List ℕ) (start len : ℕ) (dst src : ConnectionId) (version end 
   both a p q i = record { said = a; dst = p i; src = q i; version = version; end = end }
 
   said_back : (a : Answer Header) → Stand s a (saying a) → outcome_back s (split_record start len (saying a)) ≡ saying a
-  unfolding if◌then◌else◌
   said_back (ok (initial token n)) h = both _ h.0.to h.0.from
   said_back (ok (zero_rtt n)) h = both _ h.to h.from
   said_back (ok (handshake n)) h = both _ h.to h.from
@@ -56,7 +56,7 @@ module _ (s : List ℕ) (start len : ℕ) (dst src : ConnectionId) (version end 
       go false q = let w = h.1.1 (eqb-false k 4 q) in both _ (none_back s ∙ sym w.to) (none_back s ∙ sym w.from)
 
   met_back_law : (a : Answer Header) → Stand s a (saying a) → met_back (step_record start (record { met = met_on a start len; header = saying a })) ≡ met_on a start len
-  unfolding met_on if◌then◌else◌
+  unfolding met_on
   met_back_law (ok (initial token n)) h = refl
   met_back_law (ok (zero_rtt n)) h = refl
   met_back_law (ok (handshake n)) h = refl
@@ -115,7 +115,7 @@ module _ (s : List ℕ) (at : ℕ) where
   stop_back k z f = outcome_back_law 0 (refused_header k) (refuse_stands (drop at s) k z f)
 
   end_back : Back (record { met = at_end; header = refused_header 1 })
-  unfolding refused_header if◌then◌else◌
+  unfolding refused_header
   end_back i = record { met = at_end; header = both (drop at s) at 0 (cid_of []) (cid_of []) 0 0 (no 1) (none_back (drop at s)) (none_back (drop at s)) i }
 
   module _ (local : ℕ) (versions : List ℕ) (grease : Bool) where
@@ -132,7 +132,6 @@ module _ (s : List ℕ) (at : ℕ) where
         if_all Back _ _ _ (λ d. end_back) (λ d. outcome_back_law _ _ split_stands)))
 
 pub split_back : SplitGivesBack
-unfolding if◌then◌else◌
 split_back s at local versions grease = rw (flag_small grease, flag_back grease) (step_back s at local versions grease)
 
 -- ---- where there is a packet
@@ -140,7 +139,6 @@ split_back s at local versions grease = rw (flag_small grease, flag_back grease)
 module _ (s : List ℕ) (at len : ℕ) (dst src : ConnectionId) (version end : ℕ) (p : at + len ≤ length s) (q : end ≤ len) where
   header_holds : (x : Header) → Stand (drop at s) (ok x) (saying (drop at s) at len dst src version end (ok x))
       → Holds s (split_record at len (saying (drop at s) at len dst src version end (ok x)))
-  unfolding if◌then◌else◌
   header_holds (initial token n) h = record { packet = p; to = omega (arith, h); from = omega (arith, h); token = omega (arith, h); number = q }
   header_holds (zero_rtt n) h = record { packet = p; to = omega (arith, h); from = omega (arith, h); token = omega arith; number = q }
   header_holds (handshake n) h = record { packet = p; to = omega (arith, h); from = omega (arith, h); token = omega arith; number = q }
@@ -178,5 +176,4 @@ module _ (s : List ℕ) (at local : ℕ) (versions : List ℕ) (grease : Bool) w
       if_all Inside _ _ _ (λ d h. absurd (omega (arith, h))) (λ d. split_inside (leb-false _ _ d))))
 
 pub split_holds : SplitHolds
-unfolding if◌then◌else◌
 split_holds s at local versions grease = rw (flag_small grease, flag_back grease) (step_inside s at local versions grease)

@@ -1,4 +1,5 @@
 -- Where the connection ids and the token of a header that was read stand, whatever the type bits mean.
+use Rattle.std.specs.Prelude.{if◌then◌else◌}
 use mathlib.Core.Path.{◌≡◌, refl, sym, ap, ◌∙◌}
 use mathlib.Core.List.{List, []}
 use mathlib.Core.Bool.{Bool, true, false, ◌||◌}
@@ -7,7 +8,7 @@ use native.Mathlib.Omega.{arith}
 use lib.ListN.{length, take, drop, length-take, length-drop}
 use lib.Dec.{ltb}
 use borrow.Author.Tests.{le-leb, ltb-false}
-use Rattle.coding.specs.Words.{if◌then◌else◌, Answer, no, ok}
+use Rattle.coding.specs.Words.{Answer, no, ok}
 use Rattle.coding.specs.Places.{part_of}
 use Rattle.coding.specs.Reading.{fixed_at, take_at}
 use Rattle.coding.specs.Varint.{var_at}
@@ -27,7 +28,7 @@ placed start len = record { start = start; len = len }
 -- the bytes at a place inside, as the connection id that was read there
 pub cid_at : (s : List ℕ) (p : Place) → p.len ≤ 20 → p.start + p.len ≤ length s
     → ((cid_on s p).len ≡ p.len) × (cid_of (part_of s p) ≡ cid_on s p)
-unfolding cid_on cid_of part_of if◌then◌else◌
+unfolding cid_on cid_of part_of
 cid_at s p h k =
     let l : length (take p.len (drop p.start s)) ≡ p.len = simp (length-take, length-drop) (omega arith) in
     (rw (le-leb p.len 20 h, le-leb (p.start + p.len) (length s) k) l, rw (le-leb p.len 20 h))

@@ -1,4 +1,5 @@
 -- The records of sample_place and unmask give back what `protect` says.
+use Rattle.std.specs.Prelude.{if◌then◌else◌}
 use Prim.Native.Nat.{ℕ, ◌+◌, ◌≤◌}
 use mathlib.Core.Path.{◌≡◌, refl, ap}
 use mathlib.Core.List.{List}
@@ -8,7 +9,7 @@ use native.Mathlib.Omega.{arith}
 use lib.ListN.{length}
 use lib.Dec.{leb}
 use borrow.Author.Tests.{le-ltb, le-leb, leb-true, ne_eqb}
-use Rattle.coding.specs.Words.{if◌then◌else◌, Answer, no, ok}
+use Rattle.coding.specs.Words.{Answer, no, ok}
 use Rattle.coding.specs.Bytes.{byte_at}
 use Rattle.coding.specs.declared.Place.{Place}
 use Rattle.coding.proofs.Rules.{if_all}
@@ -30,7 +31,7 @@ use Rattle.gateway.proofs.SplitBack.{flag_back}
 -- ---- the kinds
 
 pub kinds_agree : KindsAgree
-unfolding long_kind kind_at if◌then◌else◌ space_of numbered_kind kind_of is_long space_in Option-elim
+unfolding long_kind kind_at space_of numbered_kind kind_of is_long space_in Option-elim
 kinds_agree (initial token len) = (refl, refl, refl)
 kinds_agree (zero_rtt len) = (refl, refl, refl)
 kinds_agree (handshake len) = (refl, refl, refl)
@@ -44,15 +45,12 @@ abbrev SampleBack : Answer (Option Place) → Type 0
 SampleBack a = sample_back (sample_record a) ≡ a
 
 sample_no : (k : ℕ) → (k ≡ 0 → ⊥) → SampleBack (no k)
-unfolding if◌then◌else◌
 sample_no k z = rw (ne_eqb k 0 z)
 
 sample_none : SampleBack (ok none)
-unfolding if◌then◌else◌
 sample_none = refl
 
 sample_some : (start : ℕ) → SampleBack (ok (some (record { start = start; len = 16 })))
-unfolding if◌then◌else◌
 sample_some start = refl
 
 sample_said : (numbered : Bool) (s : List ℕ) (at : ℕ) → SampleBack (sample_at numbered s at)
@@ -64,7 +62,6 @@ sample_said numbered s at =
     (λ _. sample_none))
 
 pub sample_back_law : SampleGivesBack
-unfolding if◌then◌else◌
 sample_back_law kind s at h = rw (le-ltb 5 kind h) (sample_said (numbered_kind kind) s at)
 
 -- ---- unmask
@@ -88,7 +85,7 @@ module _ (is_long : Bool) (s : List ℕ) (at : ℕ) (mask : List ℕ) where
   size_roomy a h = if_all Roomy _ _ _ (λ _. fourteen) (λ _. h)
 
   finish_roomy : Roomy (finish_at true is_long s at mask)
-  unfolding finish_at if◌then◌else◌
+  unfolding finish_at
   finish_roomy = size_roomy (open_at is_long s at mask) open_roomy
 
   size_refuses : (a : Answer (List ℕ)) → Refuses a → Refuses (in_size s a)
@@ -96,7 +93,7 @@ module _ (is_long : Bool) (s : List ℕ) (at : ℕ) (mask : List ℕ) where
   size_refuses a h = if_all (Refuses {A = List ℕ}) _ _ _ (λ _. fourteen) (λ _. h)
 
   bare_refuses : Refuses (finish_at false is_long s at mask)
-  unfolding finish_at if◌then◌else◌
+  unfolding finish_at
   bare_refuses = size_refuses (ok s) tt
 
 few : (first : ℕ) → tag_length first ≤ 4
@@ -105,20 +102,16 @@ few first = omega arith
 module _ (at len : ℕ) where
   -- what a number of k bytes answers
   long_back : (k v : ℕ) (clear : Bool) → opened_back true true (unmask_record at len (ok (opened.long k v clear))) ≡ ok (opened.long k v clear)
-  unfolding if◌then◌else◌
   long_back k v clear = ap (λ (b : Bool). ok (opened.long k v b)) (flag_back clear)
 
   short_back : (k v : ℕ) (clear phase : Bool) → opened_back true false (unmask_record at len (ok (opened.short k v clear phase))) ≡ ok (opened.short k v clear phase)
-  unfolding if◌then◌else◌
   short_back k v clear phase i = ok (opened.short k v (flag_back clear i) (flag_back phase i))
 
   -- a refusal
   no_back : (numbered is_long : Bool) (k : ℕ) → (k ≡ 0 → ⊥) → opened_back numbered is_long (unmask_record at len (no k)) ≡ no k
-  unfolding if◌then◌else◌
   no_back numbered is_long k z = rw (ne_eqb k 0 z)
 
   bare_back : (is_long : Bool) → opened_back false is_long (unmask_record at len (ok opened.unnumbered)) ≡ ok opened.unnumbered
-  unfolding if◌then◌else◌
   bare_back is_long = refl
 
 -- by what finish leaves
@@ -133,7 +126,7 @@ module _ (s : List ℕ) (at : ℕ) (mask : List ℕ) where
         → place_back (recorded numbered is_long w).payload ≡ payload_place at (some (recorded numbered is_long w).number_len) (length s)
 
   finish_back : (numbered is_long : Bool) (w : Answer (List ℕ)) → (numbered ≡ true → Roomy is_long s at mask w) → (numbered ≡ false → Refuses w) → Back numbered is_long w
-  unfolding read_off finished opened.opened opened_by if◌then◌else◌
+  unfolding read_off finished opened.opened opened_by
   finish_back false is_long (ok new) f g = record { says = bare_back at (length s) is_long; header = λ e. let z : ◌≡◌ {A = ℕ} 0 1 = cc in absurd (omega arith); payload = λ e. let z : ◌≡◌ {A = ℕ} 0 1 = cc in absurd (omega arith) }
   finish_back false is_long (no k) f g = record { says = no_back at (length s) false is_long k (g refl); header = λ e z. absurd (g refl z); payload = λ e z. absurd (g refl z) }
   finish_back true is_long (no k) f g = record { says = no_back at (length s) true is_long k (f refl); header = λ e z. absurd (f refl z); payload = λ e z. absurd (f refl z) }

@@ -1,4 +1,5 @@
 -- What header_write stores is what encode writes and the Length step then sets, for any payload of the given length.
+use Rattle.std.specs.Prelude.{if◌then◌else◌}
 use Prim.Native.Nat.{ℕ, ◌+◌, ◌^◌, ◌≤◌, ◌<◌}
 use mathlib.Core.Path.{◌≡◌, refl, sym, ap, ◌∙◌}
 use mathlib.Core.List.{List, ◌++◌}
@@ -8,7 +9,7 @@ use native.Mathlib.Omega.{arith}
 use lib.ListN.{length}
 use lib.Dec.{leb}
 use borrow.Author.Tests.{leb-true}
-use Rattle.coding.specs.Words.{if◌then◌else◌, ok}
+use Rattle.coding.specs.Words.{ok}
 use Rattle.shared.specs.declared.cid.ConnectionId.{ConnectionId}
 use Rattle.shared.specs.declared.kinds.CutNumber.{CutNumber}
 use Rattle.number.specs.Cutting.{is_cut}
@@ -55,7 +56,7 @@ module _ (p : Plain) (dst src : ConnectionId) (token payload : List ℕ) (c : Cu
   whole = written_header bits_of (length_field (number_size p + length payload)) p dst src token
 
   pub written : header_with p dst src token (length payload) ≡ ok whole
-  unfolding header_with whole if◌then◌else◌
+  unfolding header_with whole
   written = rw t
 
   pub encoded_then_set : length_set (length (header_bytes bits_of p dst src token)) (some c.0) (shape_by bits_of p).has_length (header_bytes bits_of p dst src token ++ payload)

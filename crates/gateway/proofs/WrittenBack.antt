@@ -1,4 +1,5 @@
 -- What header_write stores, split reads back, whatever the payload behind it.
+use Rattle.std.specs.Prelude.{if◌then◌else◌}
 use Prim.Native.Nat.{ℕ, zero, suc, ◌+◌, ◌%◌, ◌^◌, ◌≤◌, ◌<◌}
 use mathlib.Core.Path.{◌≡◌, refl, sym, ap, ◌∙◌}
 use mathlib.Core.List.{List, ◌++◌}
@@ -8,7 +9,7 @@ use lib.ListN.{length, take, length-append, length-replicate}
 use lib.Seq.{take_at}
 use lib.Dec.{leb, eqb}
 use borrow.Author.Tests.{ltb-false, le-ltb, lt-leb, ne_eqb}
-use Rattle.coding.specs.Words.{if◌then◌else◌, no, ok}
+use Rattle.coding.specs.Words.{no, ok}
 use Rattle.coding.specs.Bytes.{splice}
 use Rattle.coding.specs.Places.{part_of}
 use Rattle.coding.specs.Writing.{in_room, length_of, into_buffer}
@@ -49,7 +50,7 @@ use Rattle.gateway.proofs.HeaderWrites.{for_no, for_ok}
 -- ---- a header that fits before its payload
 
 length_set : (b : Bool) (n : ℕ) → length (length_bytes b (length_field n)) ≡ (if b then 2 else 0)
-unfolding length_bytes if◌then◌else◌
+unfolding length_bytes
 length_set true n = length_field_law n
 length_set false n = refl
 
@@ -94,7 +95,7 @@ module _ (p : Plain) (dst src : ConnectionId) (token payload : List ℕ) (local 
   one = omega arith
 
   steps : packet_step_at (header ++ payload) 0 local versions grease ≡ record { met = packet 0 (length (header ++ payload)); header = read }
-  unfolding packet_step_at step_on cut_at met_on if◌then◌else◌ read read_as headed
+  unfolding packet_step_at step_on cut_at met_on read read_as headed
   steps =
       let s = split_whole type_of bits_of p dst src token (header ++ payload) counted 2 local versions grease header_read (λ h. omega (arith, all, header_long)) in
       rw (inside, ne_eqb (length (header ++ payload)) 0 (λ e. omega (arith, e, all, header_long, one)), lt-leb (length (header ++ payload)) 0 (omega (arith, all, header_long, one)), s)
@@ -104,7 +105,6 @@ module _ (p : Plain) (dst src : ConnectionId) (token payload : List ℕ) (local 
   answer = split_record 0 (length (header ++ payload)) read
 
   pub splits : split_for (header ++ payload) 0 local versions (flag grease) ≡ answer
-  unfolding if◌then◌else◌
   splits = rw (flag_small grease, flag_back grease, steps)
 
   back : walk_step_back (header ++ payload) answer ≡ record { met = packet 0 (length (header ++ payload)); header = read }
@@ -180,7 +180,7 @@ module _ (dst src token payload : List ℕ) (local : ℕ) (versions : List ℕ) 
     given k = record { kind = k; spin = spin; key_phase = phase; random = random; version = version; number_value = value; number_len = len }
 
     by_kind : (k : ℕ) → k ≤ 5 → (y : Ready (plain_for (given k))) → ReadBack (given k) dst src token (length payload) w (sent (plain_for (given k)) y) (said (plain_for (given k)) y)
-    unfolding if◌then◌else◌ read read_as headed kind_read version_read src_read plain_number number_len_in numbered_kind
+    unfolding read read_as headed kind_read version_read src_read plain_number number_len_in numbered_kind
     by_kind zero l y = make _ y (given 0) refl refl (λ _. cid_same src) (λ _. refl) (λ _. token_there _ _ _ token payload local versions grease y.fit few y.typed y.readable a b (has_token_law _ version)) (λ _. refl) (λ _. refl) (λ e. absurd (omega (arith, e))) (λ e. absurd (omega (arith, e)))
     by_kind (suc zero) l y = make _ y (given 1) refl refl (λ _. cid_same src) (λ _. refl) (λ e. absurd (omega (arith, e))) (λ _. refl) (λ _. refl) (λ e. absurd (omega (arith, e))) (λ e. absurd (omega (arith, e)))
     by_kind (suc (suc zero)) l y = make _ y (given 2) refl refl (λ _. cid_same src) (λ _. refl) (λ e. absurd (omega (arith, e))) (λ _. refl) (λ _. refl) (λ e. absurd (omega (arith, e))) (λ e. absurd (omega (arith, e)))
@@ -204,7 +204,7 @@ module _ (p : Plain) (dst src : ConnectionId) (token : List ℕ) (n : ℕ) (old 
   put_no k f u = f (sym (ap (λ (x : HeaderAnswer). x.refusal) u.says) ∙ z)
 
   put_ok : (bs : List ℕ) → PutsHeader p (ok bs) old w new → (w.header_len ≡ length bs) × ((w.number_len ≡ number_size p) × (take w.header_len new ≡ bs))
-  unfolding in_room length_of partial_of into_buffer splice if◌then◌else◌
+  unfolding in_room length_of partial_of into_buffer splice
   put_ok bs u = go (leb (length bs) (length old)) refl
     where
       go : (b : Bool) → leb (length bs) (length old) ≡ b → (w.header_len ≡ length bs) × ((w.number_len ≡ number_size p) × (take w.header_len new ≡ bs))
@@ -215,7 +215,7 @@ module _ (p : Plain) (dst src : ConnectionId) (token : List ℕ) (n : ℕ) (old 
       go false e = let s = rw e at u.says in absurd (omega (arith, sym (ap (λ (x : HeaderAnswer). x.refusal) s) ∙ z))
 
   sent_with : PutsHeader p (header_with p dst src token n) old w new → Sent p dst src token n w new
-  unfolding header_with if◌then◌else◌
+  unfolding header_with
   sent_with u = go (fits p dst src token n) refl
     where
       go : (b : Bool) → fits p dst src token n ≡ b → Sent p dst src token n w new

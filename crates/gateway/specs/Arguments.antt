@@ -1,8 +1,7 @@
 -- Arguments and answers as numbers: a flag is 0 or 1 (frame/specs/Table `flag`), a kind of header 0 Initial, 1 0-RTT,
 -- 2 Handshake, 3 Retry, 4 short, 5 Version Negotiation (as packet's kind_of has them). What is past these is 14.
-use Rattle.std.specs.Prelude.{ℕ, Bool, not, ◌||◌, ltb, eqb}
+use Rattle.std.specs.Prelude.{ℕ, Bool, not, ◌||◌, ltb, eqb, if◌then◌else◌}
 use Rattle.std.proofs.Math.Option.{Option, none, some}
-use Rattle.coding.specs.Words.{if◌then◌else◌}
 use Rattle.protect.specs.declared.Kind.{Kind}
 use Rattle.protect.specs.declared.Kind.TheVariants as kind
 

@@ -1,8 +1,8 @@
 -- What the records give back: what `packet`, `spaces` and the caller of header_write said. The maps here undo those of Packets and
 -- Numbers; the laws are proved in proofs/SplitBack, UnmaskBack, WrittenBack and NumbersBack.
-use Rattle.std.specs.Prelude.{ℕ, ◌+◌, ◌%◌, ◌^◌, ◌≤◌, ◌<◌, ◌≡◌, List, ◌++◌, Bool, true, false, not, length, take, drop, eqb}
+use Rattle.std.specs.Prelude.{ℕ, ◌+◌, ◌%◌, ◌^◌, ◌≤◌, ◌<◌, ◌≡◌, List, ◌++◌, Bool, true, false, not, length, take, drop, eqb, if◌then◌else◌}
 use Rattle.std.proofs.Math.Option.{Option, none, some, Option-elim}
-use Rattle.coding.specs.Words.{if◌then◌else◌, Answer, no, ok}
+use Rattle.coding.specs.Words.{Answer, no, ok}
 use Rattle.coding.specs.Places.{part_of}
 use Rattle.coding.specs.declared.Place.{Place}
 use Rattle.shared.specs.Cid.{cid_of, max_cid}

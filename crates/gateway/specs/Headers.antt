@@ -1,6 +1,6 @@
 -- A header over the surface, written with its Length.
-use Rattle.std.specs.Prelude.{ℕ, ◌≡◌, List, Bool, ◌||◌, length, ltb, eqb}
-use Rattle.coding.specs.Words.{if◌then◌else◌, Answer, no, ok, max_datagram}
+use Rattle.std.specs.Prelude.{ℕ, ◌≡◌, List, Bool, ◌||◌, length, ltb, eqb, if◌then◌else◌}
+use Rattle.coding.specs.Words.{Answer, no, ok, max_datagram}
 use Rattle.coding.specs.Writing.{in_room, length_of, into_buffer}
 use Rattle.shared.specs.Cid.{max_cid, cid_of}
 use Rattle.number.specs.Cutting.{cut}

@@ -1,7 +1,7 @@
 -- The number ends of the three spaces over the surface. A step is a call of one space, lifted (spaces/specs/Calls): of the two others
 -- no flag is looked at, and their fields come back as they came.
-use Rattle.std.specs.Prelude.{ℕ, Bool, ◌||◌, ltb, eqb}
-use Rattle.coding.specs.Words.{if◌then◌else◌, Answer, no, ok}
+use Rattle.std.specs.Prelude.{ℕ, Bool, ◌||◌, ltb, eqb, if◌then◌else◌}
+use Rattle.coding.specs.Words.{Answer, no, ok}
 use Rattle.shared.specs.declared.kinds.CutNumber.{CutNumber}
 use Rattle.number.specs.Cutting.{cut}
 use Rattle.number.specs.Ends.{SoFar, none, at, base_of, Ends, Call, send_by, acknowledge_by, read_by, accept_by}

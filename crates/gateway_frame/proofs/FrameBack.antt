@@ -1,4 +1,5 @@
 -- A frame's record gives back what the table said, for any table whose rows have at most six fields; and so have this one's.
+use Rattle.std.specs.Prelude.{if◌then◌else◌}
 use mathlib.Core.Path.{◌≡◌, refl, ap, ◌∙◌}
 use mathlib.Core.List.{List, [], ◌∷◌}
 use mathlib.Core.Bool.{Bool, true, false, cond}
@@ -8,7 +9,7 @@ use Prim.Native.Nat.{ℕ, zero, suc, ◌+◌, ◌≤◌}
 use native.Mathlib.Omega.{arith}
 use lib.ListN.{length, take}
 use borrow.Author.Tests.{ne_eqb}
-use Rattle.coding.specs.Words.{if◌then◌else◌, Answer, no, ok}
+use Rattle.coding.specs.Words.{Answer, no, ok}
 use Rattle.coding.specs.Reading.{fixed_at, take_at}
 use Rattle.coding.specs.Varint.{var_at}
 use Rattle.coding.specs.declared.Place.{Place}
@@ -112,7 +113,6 @@ module _ (s : List ℕ) where
 -- ---- the values of a frame, given back
 
 value_back_law : (v : Value) → value_back (value_of v) ≡ v
-unfolding if◌then◌else◌
 value_back_law none = refl
 value_back_law (num n) = refl
 value_back_law (place p) = refl
@@ -135,15 +135,15 @@ module _ (rows : List Row) (few : AtMostSix rows) (at : ℕ) where
   Back x = (frame_step_back rows (frame_record at x) ≡ x) × ((frame_record at x).start ≡ at)
 
   none_back : (k : ℕ) → (k ≡ 0 → ⊥) → Back (frame (refused k at option.none))
-  unfolding frame_record if◌then◌else◌
+  unfolding frame_record
   none_back k z = (rw (ne_eqb k 0 z), refl)
 
   end_back : Back end
-  unfolding frame_record if◌then◌else◌
+  unfolding frame_record
   end_back = (refl, refl)
 
   read_back : (t : ℕ) (r : Read Said) → Fine (Counts (count_in (look rows t) t)) r → Back (frame (outcome at t r))
-  unfolding outcome frame_record if◌then◌else◌
+  unfolding outcome frame_record
   read_back t (done (said name vs) n) e =
       (ap (λ (x : List Value). frame (taken t (said name x) n)) (rw (← e) (values_back_law at t name vs n (rw (← e) at (few t)))), refl)
   read_back t (refuse k) z = (rw (ne_eqb k 0 z), refl)

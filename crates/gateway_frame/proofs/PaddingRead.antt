@@ -1,4 +1,5 @@
 -- Where PADDING stands by its byte alone, the step of the walk reads it.
+use Rattle.std.specs.Prelude.{if◌then◌else◌}
 use mathlib.Core.Path.{◌≡◌, refl}
 use mathlib.Core.List.{List}
 use mathlib.Core.Bool.{Bool, true, false}
@@ -7,7 +8,7 @@ use native.Mathlib.Omega.{arith}
 use lib.ListN.{length}
 use lib.Dec.{ltb, leb, eqb}
 use borrow.Author.Tests.{le-ltb, lt-leb, ne_eqb, lt-ltb, le-leb, ltb-false, leb-false, eqb-true}
-use Rattle.coding.specs.Words.{if◌then◌else◌, got, and_then}
+use Rattle.coding.specs.Words.{got, and_then}
 use Rattle.coding.specs.Bytes.{byte_at, be}
 use Rattle.coding.specs.Varint.{var_len, var_at}
 use Rattle.frame.specs.Format.{fields_at}
@@ -23,7 +24,7 @@ module _ (s : List ℕ) (at : ℕ) where
     pub zero : byte_at s at ≡ 0
 
   pub stands : is_padding s at ≡ true → Stands
-  unfolding is_padding if◌then◌else◌
+  unfolding is_padding
   stands = go (ltb 65527 (length s)) (leb (length s) at) refl refl
     where
       go : (a b : Bool) → ltb 65527 (length s) ≡ a → leb (length s) at ≡ b
@@ -35,10 +36,10 @@ module _ (s : List ℕ) (at : ℕ) where
 
   module _ (h : Stands) where
     type_read : var_at s at ≡ got 0 (at + 1)
-    unfolding var_at var_len if◌then◌else◌ be
+    unfolding var_at var_len be
     type_read = rw (lt-ltb at (length s) h.inside, h.zero, le-leb (at + 1) (length s) (omega (arith, h.inside)))
 
     pub padding_read : padding_record at (at + 1) ≡ frame_for s at
-    unfolding frame_for step_at frame_at and_then outcome frame_body_at table frame_record fields_at if◌then◌else◌
+    unfolding frame_for step_at frame_at and_then outcome frame_body_at table frame_record fields_at
     padding_read =
         rw (le-ltb 65527 (length s) h.few, ne_eqb (length s) 0 (λ e. omega (arith, e, h.inside)), lt-leb (length s) at h.inside, type_read)

@@ -1,8 +1,8 @@
 -- What a frame says, as records: the table's rows.
-use Rattle.std.specs.Prelude.{ℕ, List, [], ◌∷◌, Bool, false, length, ltb, leb, eqb}
+use Rattle.std.specs.Prelude.{ℕ, List, [], ◌∷◌, Bool, false, length, ltb, leb, eqb, if◌then◌else◌}
 use Rattle.std.proofs.Math.Option.{Option, some}
 use Rattle.std.proofs.Math.Option as option
-use Rattle.coding.specs.Words.{if◌then◌else◌, max_datagram}
+use Rattle.coding.specs.Words.{max_datagram}
 use Rattle.coding.specs.Bytes.{byte_at}
 use Rattle.frame.specs.Format.{Value, num, place, none, Said, said}
 use Rattle.frame.specs.Table.{table, taken, refused}

@@ -1,8 +1,7 @@
 -- What a frame's record gives back: the table's values. `frame_step_back` undoes `frame_for`; the law is proved in proofs/FrameBack.
-use Rattle.std.specs.Prelude.{ℕ, ◌≤◌, ◌≡◌, List, [], ◌∷◌, length, take, eqb}
+use Rattle.std.specs.Prelude.{ℕ, ◌≤◌, ◌≡◌, List, [], ◌∷◌, length, take, eqb, if◌then◌else◌}
 use Rattle.std.proofs.Math.Option.{Option, some}
 use Rattle.std.proofs.Math.Option as option
-use Rattle.coding.specs.Words.{if◌then◌else◌}
 use Rattle.frame.specs.Format.{Value, num, place, none, Said, said}
 use Rattle.frame.specs.Table.{Row, look, table, taken, refused}
 use Rattle.frame.specs.Walk.{WalkStep, frame, end, step_at}

@@ -1,5 +1,6 @@
 -- Runs of the model, so that it is not empty: for every length a packet that is read as it was sent, and one that is misread; at the
 -- ceiling one that is read as it was sent though it is not near; and an acknowledgement that shortens the next cut.
+use Rattle.std.specs.Prelude.{if◌then◌else◌}
 use Prim.Native.Nat.{ℕ, suc, ◌+◌, ◌-◌, ◌*◌, ◌/◌, ◌^◌, ◌≤◌, ◌<◌}
 use mathlib.Core.Path.{◌≡◌, refl, sym, ap, ◌∙◌}
 use mathlib.Core.List.Memᴰ
@@ -8,7 +9,7 @@ use mathlib.Core.Logic.{inl, inr, ⊎_elim}
 use native.Mathlib.Nat.{two-pow-succ, one-le-pow}
 use native.Mathlib.Omega.{arith}
 use lib.Pow.{pow_mono}
-use Rattle.coding.specs.Words.{if◌then◌else◌, ok}
+use Rattle.coding.specs.Words.{ok}
 use Rattle.number.specs.Cutting.{cut, window_of, bytes_for}
 use Rattle.number.specs.Ends.{SoFar, none, at, Ends, base_of, expected_of, larger_of, Call, Packet, send_by, read_by}
 use Rattle.number.specs.Line.{World, fresh_world, LineStep, Reach, AsSent, Near, Low}
@@ -252,7 +253,7 @@ says_next e m l p q r =
     ap (λ (c : Call Packet). c.says) (send_packet e m (omega (arith, p)) (omega (arith, p, b))) ∙ rw (p, b)
 
 pub runs_shorter : Shortens
-unfolding base_of larger_of bytes_for window_of if◌then◌else◌
+unfolding base_of larger_of bytes_for window_of
 runs_shorter =
     let h = few_heard in
     let n : h.before.sender.next ≡ 128 = ap (λ (e : Ends). e.next) (h.same ∙ few_taken.sender) ∙ few.next in

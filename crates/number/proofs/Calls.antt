@@ -1,11 +1,12 @@
 -- The cases of the calls on the number ends.
+use Rattle.std.specs.Prelude.{if◌then◌else◌}
 use Prim.Native.Nat.{ℕ, ◌+◌, ◌-◌, ◌^◌, ◌≤◌, ◌<◌}
 use mathlib.Core.Path.{◌≡◌, refl, sym, ap, ◌∙◌}
 use mathlib.Core.Bool.{Bool, true, false}
 use mathlib.Core.Logic.{⊎_elim}
 use native.Mathlib.Omega.{arith}
 use borrow.Author.Tests.{lt-ltb, le-ltb, le-leb, lt-leb}
-use Rattle.coding.specs.Words.{if◌then◌else◌, Answer, no, ok}
+use Rattle.coding.specs.Words.{Answer, no, ok}
 use Rattle.shared.specs.declared.kinds.CutNumber.{CutNumber}
 use Rattle.number.specs.Cutting.{cut_made}
 use Rattle.number.specs.Ends.{SoFar, none, at, Ends, base_of, expected_of, larger_of, send_end, receive_end, Call, refused, done, Packet, send_with, send_by, acknowledge_by, accept_by}
@@ -53,45 +54,45 @@ module _ (e : Ends) where
 
 module _ (e : Ends) where
   pub send_14 : send_end e ≡ false → refused 14 e ≡ send_by e
-  unfolding send_by if◌then◌else◌
+  unfolding send_by
   send_14 t = rw t
 
   pub send_on : (a : Answer CutNumber) → send_end e ≡ true → a ≡ cut_made e.next (base_of e.acked) → send_with e a ≡ send_by e
-  unfolding send_by if◌then◌else◌
+  unfolding send_by
   send_on a t q = rw (t, q)
 
   module _ (n : ℕ) where
     pub acknowledge_14 : send_end e ≡ false → refused 14 e ≡ acknowledge_by e n
-    unfolding acknowledge_by if◌then◌else◌
+    unfolding acknowledge_by
     acknowledge_14 t = rw t
 
     pub acknowledge_unsent : send_end e ≡ true → e.next ≤ n → refused 14 e ≡ acknowledge_by e n
-    unfolding acknowledge_by if◌then◌else◌
+    unfolding acknowledge_by
     acknowledge_unsent t p = simp (t, le-leb _ _ p)
 
     pub acknowledge_on : send_end e ≡ true → n < e.next
         → done tt (record { next = e.next; acked = larger_of e.acked n; largest = e.largest }) ≡ acknowledge_by e n
-    unfolding acknowledge_by if◌then◌else◌
+    unfolding acknowledge_by
     acknowledge_on t p = simp (t, lt-leb _ _ p)
 
     pub accept_14 : receive_end e ≡ false → refused 14 e ≡ accept_by e n
-    unfolding accept_by if◌then◌else◌
+    unfolding accept_by
     accept_14 t = rw t
 
     pub accept_high : receive_end e ≡ true → 2 ^ 62 - 1 < n → refused 14 e ≡ accept_by e n
-    unfolding accept_by if◌then◌else◌
+    unfolding accept_by
     accept_high t p = simp (t, lt-ltb _ _ p)
 
     pub accept_on : receive_end e ≡ true → n ≤ 2 ^ 62 - 1
         → done tt (record { next = e.next; acked = e.acked; largest = larger_of e.largest n }) ≡ accept_by e n
-    unfolding accept_by if◌then◌else◌
+    unfolding accept_by
     accept_on t p = simp (t, le-ltb _ _ p)
 
 -- ---- the larger of two
 
 -- a smaller number than the largest so far leaves it as it is
 pub smaller_stays : (m n : ℕ) → n ≤ m → larger_of (at m) n ≡ at m
-unfolding larger_of if◌then◌else◌
+unfolding larger_of
 smaller_stays m n p = simp (le-ltb m n p)
 
 pub record Larger (l : SoFar) (n : ℕ) : Type 0 where
@@ -101,7 +102,7 @@ pub record Larger (l : SoFar) (n : ℕ) : Type 0 where
   pub base : {e : ℕ} → base_of l ≤ e → n ≤ e → base_of (larger_of l n) ≤ e
 
 pub larger : (l : SoFar) (n : ℕ) → Larger l n
-unfolding larger_of expected_of base_of if◌then◌else◌
+unfolding larger_of expected_of base_of
 larger none n = record { keeps = omega arith; covers = omega arith; within = λ p q. omega arith; base = λ p q. q }
 larger (at m) n = ⊎_elim stays grows (le? n m)
   where

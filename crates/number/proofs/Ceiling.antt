@@ -1,4 +1,5 @@
 -- The ceiling: what is read below 2^62 and at it; and the Rust's rule beside A.3.
+use Rattle.std.specs.Prelude.{if◌then◌else◌}
 use Prim.Native.Nat.{ℕ, ◌+◌, ◌-◌, ◌*◌, ◌/◌, ◌%◌, ◌^◌, ◌≤◌, ◌<◌}
 use mathlib.Core.Path.{◌≡◌, refl, sym, ◌∙◌}
 use mathlib.Core.Bool.{Bool, true, false}
@@ -6,7 +7,7 @@ use mathlib.Core.Logic.{◌↔◌, ⊎_elim}
 use native.Mathlib.Nat.{mod-lt, div-add-mod', mul-le-mul_right}
 use native.Mathlib.Omega.{arith}
 use borrow.Author.Tests.{le-leb, lt-leb, lt-ltb, le-ltb}
-use Rattle.coding.specs.Words.{if◌then◌else◌, no, ok}
+use Rattle.coding.specs.Words.{no, ok}
 use Rattle.shared.specs.declared.kinds.CutNumber.{CutNumber}
 use Rattle.number.specs.Cutting.{window_of, is_cut}
 use Rattle.number.specs.Expanding.{candidate, nearest_to, decode_a3, expanded}
@@ -105,7 +106,7 @@ module _ (w v e : ℕ) where
         (le? (e / w) 0)
 
     pub a3_agrees : (Ceiling → ⊥) → nearest_to w v e ≡ decode_a3 w v e
-    unfolding nearest_to if◌then◌else◌
+    unfolding nearest_to
     a3_agrees room =
         a3_cases w v e
         (λ a t q. let n : nearest_to w v e ≡ c + w = simp (le-leb (c + w / 2) e a) in n ∙ q)
@@ -122,7 +123,7 @@ module _ (w v e : ℕ) where
 
   -- there the Rust adds the window, and A.3 leaves the candidate as it is
   pub a3_differs : Ceiling → (nearest_to w v e ≡ candidate w v e + w) × (decode_a3 w v e ≡ candidate w v e)
-  unfolding nearest_to decode_a3 if◌then◌else◌
+  unfolding nearest_to decode_a3
   a3_differs at =
       let c = candidate w v e in (
         simp (le-leb (c + w / 2) e at.0),
@@ -172,5 +173,5 @@ pub record CeilingExample : Type 0 where
   pub a3 : decode_a3 (window_of 1) 0 (2 ^ 62 - 1) ≡ 2 ^ 62 - 256
 
 pub ceiling_example : CeilingExample
-unfolding nearest_to decode_a3 window_of if◌then◌else◌
+unfolding nearest_to decode_a3 window_of
 ceiling_example = record { rust = refl; a3 = refl }

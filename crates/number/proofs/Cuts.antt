@@ -1,4 +1,5 @@
 -- The cases of a cut, what it says of its number, and its bytes read back.
+use Rattle.std.specs.Prelude.{if◌then◌else◌}
 use Prim.Native.Nat.{ℕ, ◌-◌, ◌*◌, ◌/◌, ◌%◌, ◌^◌, ◌≤◌, ◌<◌}
 use mathlib.Core.Path.{◌≡◌, refl, sym, ap, ◌∙◌}
 use mathlib.Core.Bool.{Bool, true, false}
@@ -10,7 +11,7 @@ use lib.ListN.{length, take, length-take}
 use lib.Seq.{take_at}
 use lib.Dec.{eqb}
 use borrow.Author.Tests.{lt-ltb, le-ltb, eq-eqb, ne_eqb, eqb-true, eqb-false}
-use Rattle.coding.specs.Words.{if◌then◌else◌, no, ok}
+use Rattle.coding.specs.Words.{no, ok}
 use Rattle.coding.specs.Bytes.{be, bytes_be}
 use Rattle.coding.specs.Writing.{Put}
 use Rattle.coding.proofs.Laws.{length_bytes_be, pow256, Octets, octets_take, be_below}
@@ -24,20 +25,20 @@ use Rattle.number.proofs.Windows.{le?, bytes_power, Window, window_made, Fit, by
 
 module _ (n acked : ℕ) where
   pub made_high : 2 ^ 62 - 1 < n → no 14 ≡ cut_made n acked
-  unfolding cut_made if◌then◌else◌
+  unfolding cut_made
   made_high p = simp (lt-ltb _ _ p)
 
   pub made_below : n ≤ 2 ^ 62 - 1 → n < acked → no 14 ≡ cut_made n acked
-  unfolding cut_made if◌then◌else◌
+  unfolding cut_made
   made_below p q = simp (le-ltb _ _ p, lt-ltb _ _ q)
 
   module _ (top : n ≤ 2 ^ 62 - 1) (down : acked ≤ n) (k : ℕ) (e : k ≡ bytes_for (2 * (n - acked))) where
     pub made_far : k ≡ 0 → no 16 ≡ cut_made n acked
-    unfolding cut_made cut_to if◌then◌else◌
+    unfolding cut_made cut_to
     made_far z = simp (le-ltb _ _ top, le-ltb _ _ down, ← e, eq-eqb _ 0 z)
 
     pub made_cut : (k ≡ 0 → ⊥) → ok (cut k (n % window_of k)) ≡ cut_made n acked
-    unfolding cut_made cut_to if◌then◌else◌
+    unfolding cut_made cut_to
     made_cut z = simp (le-ltb _ _ top, le-ltb _ _ down, ← e, ne_eqb _ 0 z)
 
     -- the window of such a length
@@ -87,28 +88,28 @@ cut_kept {n} {acked} {c} i =
 module _ (c : CutNumber) where
   module _ (e : is_cut c ≡ true) where
     pub tag_in : ok (length_bits c) ≡ cut_tag c
-    unfolding cut_tag if◌then◌else◌
+    unfolding cut_tag
     tag_in = rw e
 
     pub out_in : cut_out c ≡ ok (cut_bytes c)
-    unfolding cut_out if◌then◌else◌
+    unfolding cut_out
     out_in = rw e
 
     pub put_in : cut_put c ≡ cut_bytes c
-    unfolding cut_put if◌then◌else◌
+    unfolding cut_put
     put_in = rw e
 
   module _ (e : is_cut c ≡ false) where
     pub tag_out : no 14 ≡ cut_tag c
-    unfolding cut_tag if◌then◌else◌
+    unfolding cut_tag
     tag_out = rw e
 
     pub out_out : cut_out c ≡ no 14
-    unfolding cut_out if◌then◌else◌
+    unfolding cut_out
     out_out = rw e
 
     pub put_out : cut_put c ≡ []
-    unfolding cut_put if◌then◌else◌
+    unfolding cut_put
     put_out = rw e
 
 -- ---- bytes
@@ -120,15 +121,15 @@ put_length c i e p = rw (put_in c i, e) p
 
 module _ (k : ℕ) (bs : List ℕ) where
   pub read_few : k < 1 → no 14 ≡ cut_read k bs
-  unfolding cut_read if◌then◌else◌
+  unfolding cut_read
   read_few p = simp (lt-ltb _ _ p)
 
   pub read_many : 1 ≤ k → 4 < k → no 14 ≡ cut_read k bs
-  unfolding cut_read if◌then◌else◌
+  unfolding cut_read
   read_many p q = simp (le-ltb _ _ p, lt-ltb _ _ q)
 
   pub read_some : 1 ≤ k → k ≤ 4 → ok (first_cut k bs) ≡ cut_read k bs
-  unfolding cut_read if◌then◌else◌
+  unfolding cut_read
   read_some p q = simp (le-ltb _ _ p, le-ltb _ _ q)
 
 -- of a word's four bytes

@@ -1,5 +1,6 @@
 -- On any line that invents nothing, a packet is read as it was sent exactly when the largest accepted number is near, where that
 -- number is low; from there on when it is near; and the model does what the letter says of its ends.
+use Rattle.std.specs.Prelude.{if◌then◌else◌}
 use Prim.Native.Nat.{ℕ, suc, ◌+◌, ◌-◌, ◌*◌, ◌%◌, ◌^◌, ◌≤◌, ◌<◌}
 use mathlib.Core.Path.{◌≡◌, refl, sym, ap, ◌∙◌}
 use mathlib.Core.List.Memᴰ
@@ -9,7 +10,7 @@ use native.Mathlib.Omega.{arith}
 use native.Mathlib.Numerals.{add-one}
 use lib.ListN.{length}
 use borrow.Author.Tests.{lt-ltb, le-ltb}
-use Rattle.coding.specs.Words.{if◌then◌else◌, ok}
+use Rattle.coding.specs.Words.{ok}
 use Rattle.number.specs.Cutting.{window_of}
 use Rattle.number.specs.Expanding.{decode_a3}
 use Rattle.number.specs.Ends.{SoFar, none, at, base_of, expected_of, larger_of, Packet, done, acknowledge_by, read_by, accept_by}
@@ -138,7 +139,7 @@ not_in : {n : ℕ} {l : List ℕ} → l ≡ [] → Memᴰ n l → ⊥
 not_in e m = Memᴰ.not-nil (rw e at m)
 
 larger_in : (s : SoFar) (n : ℕ) (l : List ℕ) → LargestIn s l → LargestIn (larger_of s n) (n ∷ l)
-unfolding larger_of if◌then◌else◌
+unfolding larger_of
 larger_in none n l e = (Memᴰ.head refl, λ i x. ⊎_elim (λ y. omega (arith, y)) (λ y. absurd (not_in e y)) (Memᴰ.cases_cons x))
 larger_in (at m) n l (has, all) = ⊎_elim stays grows (le? n m)
   where

@@ -1,4 +1,5 @@
 -- Worlds that are reached: the sender goes on; a packet is accepted and heard of; numbers are sent, accepted and heard of one by one.
+use Rattle.std.specs.Prelude.{if◌then◌else◌}
 use Prim.Native.Nat.{ℕ, zero, suc, ◌+◌, ◌-◌, ◌*◌, ◌%◌, ◌^◌, ◌≤◌, ◌<◌}
 use mathlib.Core.Path.{◌≡◌, refl, sym, ap, ◌∙◌}
 use mathlib.Core.List.{Memᴰ}
@@ -6,7 +7,7 @@ use mathlib.Core.Logic.{inl, ⊎_elim}
 use native.Mathlib.Nat.{one-le-pow}
 use native.Mathlib.Omega.{arith}
 use borrow.Author.Tests.{lt-ltb}
-use Rattle.coding.specs.Words.{if◌then◌else◌, ok}
+use Rattle.coding.specs.Words.{ok}
 use Rattle.number.specs.Cutting.{cut, window_of, bytes_for}
 use Rattle.number.specs.Ends.{SoFar, none, at, Ends, base_of, expected_of, larger_of, Packet, done, send_with, send_by}
 use Rattle.number.specs.Line.{World, fresh_world, LineStep, Reach}
@@ -132,7 +133,7 @@ not_past {w} r = go w.receiver.largest (largest_in r)
 
 -- a number from the expected one on is the largest
 larger_is : (s : SoFar) (n : ℕ) → expected_of s ≤ n → larger_of s n ≡ at n
-unfolding expected_of larger_of if◌then◌else◌
+unfolding expected_of larger_of
 larger_is none n p = refl
 larger_is (at m) n p = simp (lt-ltb m n (omega arith))
 

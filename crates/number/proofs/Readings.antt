@@ -1,4 +1,5 @@
 -- The reading of a cut number, over any even window, and exactly when it gives the number that was cut; the cases of a reading.
+use Rattle.std.specs.Prelude.{if◌then◌else◌}
 use Prim.Native.Nat.{ℕ, suc, ◌+◌, ◌-◌, ◌*◌, ◌/◌, ◌%◌, ◌^◌, ◌≤◌, ◌<◌}
 use mathlib.Core.Path.{◌≡◌, refl, sym, ap, ◌∙◌}
 use mathlib.Core.Bool.{Bool, true, false}
@@ -6,7 +7,7 @@ use mathlib.Core.Logic.{◌↔◌, ◌⊎◌, inl, inr, ⊎_elim}
 use native.Mathlib.Nat.{mod-lt, div-add-mod', mul-le-mul_right}
 use native.Mathlib.Omega.{arith}
 use borrow.Author.Tests.{le-leb, lt-leb, lt-ltb, le-ltb}
-use Rattle.coding.specs.Words.{if◌then◌else◌, no, ok}
+use Rattle.coding.specs.Words.{no, ok}
 use Rattle.shared.specs.declared.kinds.CutNumber.{CutNumber}
 use Rattle.number.specs.Cutting.{window_of, is_cut}
 use Rattle.number.specs.Expanding.{candidate, decode_a3, expanded}
@@ -16,23 +17,23 @@ use Rattle.number.proofs.Windows.{le?}
 
 module _ (w v e : ℕ) where
   pub a3_next : candidate w v e + w / 2 ≤ e → candidate w v e + w < 2 ^ 62 → candidate w v e + w ≡ decode_a3 w v e
-  unfolding decode_a3 if◌then◌else◌
+  unfolding decode_a3
   a3_next a t = simp (le-leb _ _ a, lt-ltb _ _ t)
 
   pub a3_top : candidate w v e + w / 2 ≤ e → 2 ^ 62 ≤ candidate w v e + w → candidate w v e ≡ decode_a3 w v e
-  unfolding decode_a3 if◌then◌else◌
+  unfolding decode_a3
   a3_top a t = simp (le-leb _ _ a, le-ltb _ _ t, le-ltb (e + w / 2) (candidate w v e) (omega arith))
 
   pub a3_here : e < candidate w v e + w / 2 → candidate w v e ≤ e + w / 2 → candidate w v e ≡ decode_a3 w v e
-  unfolding decode_a3 if◌then◌else◌
+  unfolding decode_a3
   a3_here a b = simp (lt-leb _ _ a, le-ltb _ _ b)
 
   pub a3_before : e + w / 2 < candidate w v e → w ≤ candidate w v e → candidate w v e - w ≡ decode_a3 w v e
-  unfolding decode_a3 if◌then◌else◌
+  unfolding decode_a3
   a3_before b d = simp (lt-leb (candidate w v e + w / 2) e (omega arith), lt-ltb _ _ b, le-leb _ _ d)
 
   pub a3_first : e + w / 2 < candidate w v e → candidate w v e < w → candidate w v e ≡ decode_a3 w v e
-  unfolding decode_a3 if◌then◌else◌
+  unfolding decode_a3
   a3_first b d = simp (lt-leb (candidate w v e + w / 2) e (omega arith), lt-ltb _ _ b, lt-leb _ _ d)
 
   -- these are all: what each of them gives is so
@@ -161,15 +162,15 @@ module _ (w h n e : ℕ) (tw : w ≡ h + h) (pos : 0 < h) where
 
 module _ (c : CutNumber) (e : ℕ) where
   pub expanded_out : is_cut c ≡ false → no 14 ≡ expanded c e
-  unfolding expanded if◌then◌else◌
+  unfolding expanded
   expanded_out i = rw i
 
   pub expanded_high : is_cut c ≡ true → 2 ^ 62 < e → no 14 ≡ expanded c e
-  unfolding expanded if◌then◌else◌
+  unfolding expanded
   expanded_high i p = simp (i, lt-ltb _ _ p)
 
   pub expanded_in : is_cut c ≡ true → e ≤ 2 ^ 62 → ok (decode_a3 (window_of c.0) c.1 e) ≡ expanded c e
-  unfolding expanded if◌then◌else◌
+  unfolding expanded
   expanded_in i p = simp (i, le-ltb _ _ p)
 
   -- whatever the cut number

@@ -1,4 +1,5 @@
 -- Laws of the four windows, over the width.
+use Rattle.std.specs.Prelude.{if◌then◌else◌}
 use Prim.Native.Nat.{ℕ, zero, suc, ◌+◌, ◌-◌, ◌*◌, ◌/◌, ◌%◌, ◌^◌, ◌≤◌, ◌<◌}
 use mathlib.Core.Path.{◌≡◌, refl, sym, ap, ◌∙◌}
 use mathlib.Core.Bool.{Bool, true, false}
@@ -8,7 +9,6 @@ use native.Mathlib.Omega.{arith}
 use lib.Dec.{leb, ltb, eqb}
 use lib.Pow.{pow_mono, pow-add}
 use borrow.Author.Tests.{leb-true, leb-false, ltb-true, ltb-false, lt-ltb, le-ltb, eq-eqb, ne_eqb}
-use Rattle.coding.specs.Words.{if◌then◌else◌}
 use Rattle.shared.specs.declared.kinds.CutNumber.{CutNumber}
 use Rattle.number.specs.Cutting.{window_of, is_cut, first_fit, bytes_for}
 
@@ -22,15 +22,15 @@ le? a b = go (leb a b) refl
 
 -- a length has a window exactly if it is one of the four
 pub window_is : (k : ℕ) → 1 ≤ k → k ≤ 4 → window_of k ≡ 2 ^ (8 * k)
-unfolding window_of if◌then◌else◌
+unfolding window_of
 window_is k p q = simp (le-ltb _ _ p, le-ltb _ _ q)
 
 pub window_low : (k : ℕ) → k < 1 → window_of k ≡ 0
-unfolding window_of if◌then◌else◌
+unfolding window_of
 window_low k p = simp (lt-ltb _ _ p)
 
 pub window_high : (k : ℕ) → 4 < k → window_of k ≡ 0
-unfolding window_of if◌then◌else◌
+unfolding window_of
 window_high k p = simp (le-ltb k 1 (omega arith), lt-ltb _ _ p)
 
 -- 2^(8k) is twice 2^(8k-1)
@@ -127,7 +127,6 @@ pub record Fit (low k t : ℕ) : Type 0 where
   pub fewest : (j : ℕ) → low ≤ j → j < k → 2 ^ (8 * j) ≤ t
 
 fit : (m low t : ℕ) → m + low ≤ 5 → (first_fit m low t ≡ 0 → ⊥) → Fit low (first_fit m low t) t
-unfolding if◌then◌else◌
 fit zero low t p some = absurd (some refl)
 fit (suc m) low t p some = go (ltb t (2 ^ (8 * low))) refl (fit m (suc low) t (omega arith))
   where
@@ -155,7 +154,6 @@ bytes_fit t some = fit 4 1 t (omega arith) some
 
 -- and it is found: a length of the four that is the fewest for t
 first_fit_is : (m low k t : ℕ) → low ≤ k → k < m + low → t < 2 ^ (8 * k) → ((j : ℕ) → low ≤ j → j < k → 2 ^ (8 * j) ≤ t) → first_fit m low t ≡ k
-unfolding if◌then◌else◌
 first_fit_is zero low k t a b up down = absurd (omega arith)
 first_fit_is (suc m) low k t a b up down =
     ⊎_elim here (λ p. there p (first_fit_is m (suc low) k t p (omega arith) up (λ j x y. down j (omega arith) y))) (le? k low)
@@ -175,7 +173,6 @@ bytes_are k t a b up down = first_fit_is 4 1 k t a (omega arith) up down
 
 -- below 2^32 there is one
 first_fit_some : (m low t : ℕ) → 1 ≤ low → t < 2 ^ (8 * (m + low)) → first_fit (suc m) low t ≡ 0 → ⊥
-unfolding if◌then◌else◌
 first_fit_some zero low t p up z =
     let e : 8 * (0 + low) ≡ 8 * low = omega arith in
     let h : t < 2 ^ (8 * low) = rw e at up in

@@ -1,6 +1,6 @@
 -- Packet numbers cut to their last bytes, and those bytes: RFC 9000, 17.1.
-use Rattle.std.specs.Prelude.{ℕ, zero, suc, ◌+◌, ◌-◌, ◌*◌, ◌%◌, ◌^◌, Bool, List, [], take, ltb, eqb}
-use Rattle.coding.specs.Words.{if◌then◌else◌, Answer, no, ok, number_end}
+use Rattle.std.specs.Prelude.{ℕ, zero, suc, ◌+◌, ◌-◌, ◌*◌, ◌%◌, ◌^◌, Bool, List, [], take, ltb, eqb, if◌then◌else◌}
+use Rattle.coding.specs.Words.{Answer, no, ok, number_end}
 use Rattle.coding.specs.Bytes.{be, bytes_be}
 use Rattle.shared.specs.declared.kinds.CutNumber.{CutNumber}
 

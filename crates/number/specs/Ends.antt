@@ -1,6 +1,6 @@
 -- The two number ends of a space: what a call says, and what it leaves.
-use Rattle.std.specs.Prelude.{ℕ, ◌+◌, ◌-◌, Bool, ◌&&◌, ltb, leb}
-use Rattle.coding.specs.Words.{if◌then◌else◌, Answer, no, ok, number_end}
+use Rattle.std.specs.Prelude.{ℕ, ◌+◌, ◌-◌, Bool, ◌&&◌, ltb, leb, if◌then◌else◌}
+use Rattle.coding.specs.Words.{Answer, no, ok, number_end}
 use Rattle.shared.specs.declared.kinds.CutNumber.{CutNumber}
 use Rattle.number.specs.Cutting.{cut_made}
 use Rattle.number.specs.Expanding.{expanded}

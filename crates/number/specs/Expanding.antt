@@ -1,6 +1,6 @@
 -- Cut numbers read back: RFC 9000, A.3; and the Rust's PacketNumber::expand beside it. w is the window 2^(8k), v the value, e the expected number.
-use Rattle.std.specs.Prelude.{ℕ, ◌+◌, ◌-◌, ◌/◌, ◌%◌, ◌&&◌, ltb, leb}
-use Rattle.coding.specs.Words.{if◌then◌else◌, Answer, no, ok, number_end}
+use Rattle.std.specs.Prelude.{ℕ, ◌+◌, ◌-◌, ◌/◌, ◌%◌, ◌&&◌, ltb, leb, if◌then◌else◌}
+use Rattle.coding.specs.Words.{Answer, no, ok, number_end}
 use Rattle.shared.specs.declared.kinds.CutNumber.{CutNumber}
 use Rattle.number.specs.Cutting.{window_of, is_cut}
 

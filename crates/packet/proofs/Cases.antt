@@ -1,4 +1,5 @@
 -- The cases of the definitions, each a law that a proof cites instead of the definition's text.
+use Rattle.std.specs.Prelude.{if◌then◌else◌}
 use mathlib.Core.Path.{◌≡◌, refl}
 use mathlib.Core.List.{List}
 use mathlib.Core.Bool.{Bool, true, false}
@@ -9,7 +10,7 @@ use native.Mathlib.Omega.{arith}
 use lib.ListN.{length, get_or, take, drop, drop_of_length-le, length-drop}
 use lib.Seq.{drop-cons, take_all}
 use borrow.Author.Tests.{eq-eqb, ne_eqb}
-use Rattle.coding.specs.Words.{if◌then◌else◌, Answer, no, ok}
+use Rattle.coding.specs.Words.{Answer, no, ok}
 use Rattle.packet.specs.Header.{Header, Outcome, outside, unfixed, listed, length_at, tail_at, length_in, kind_of, is_kind, is_long}
 use Rattle.packet.specs.Split.{nowhere, cut_at, no_packet, split_by, split_on, token_in}
 use Rattle.packet.specs.Said.{long_of, long_type_of}
@@ -89,29 +90,23 @@ module _ (l : List ℕ) (i v : ℕ) where
 module _ {A : Type 0} (x p q : A) (b : Bool) where
   module _ (s : List ℕ) (local : ℕ) (versions : List ℕ) (e : b ≡ outside s local versions) where
     pub outside_yes : b ≡ true → x ≡ p → x ≡ (if outside s local versions then p else q)
-    unfolding if◌then◌else◌
     outside_yes h k = rw (← e, h) k
 
     pub outside_no : b ≡ false → x ≡ q → x ≡ (if outside s local versions then p else q)
-    unfolding if◌then◌else◌
     outside_no h k = rw (← e, h) k
 
   module _ (first : ℕ) (grease : Bool) (e : b ≡ unfixed first grease) where
     pub unfixed_yes : b ≡ true → x ≡ p → x ≡ (if unfixed first grease then p else q)
-    unfolding if◌then◌else◌
     unfixed_yes h k = rw (← e, h) k
 
     pub unfixed_no : b ≡ false → x ≡ q → x ≡ (if unfixed first grease then p else q)
-    unfolding if◌then◌else◌
     unfixed_no h k = rw (← e, h) k
 
   module _ (versions : List ℕ) (v : ℕ) (e : b ≡ listed versions v) where
     pub listed_yes : b ≡ true → x ≡ p → x ≡ (if listed versions v then p else q)
-    unfolding if◌then◌else◌
     listed_yes h k = rw (← e, h) k
 
     pub listed_no : b ≡ false → x ≡ q → x ≡ (if listed versions v then p else q)
-    unfolding if◌then◌else◌
     listed_no h k = rw (← e, h) k
 
 pub ruleset made_tests = (outside_yes, outside_no, unfixed_yes, unfixed_no, listed_yes, listed_no)

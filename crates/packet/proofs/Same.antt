@@ -1,5 +1,6 @@
 -- What a header's reading looks at: the bits of byte 0 that steer, and the bytes up to the header's end. Two datagrams of equal
 -- length that agree there get equal answers, whatever the type bits mean.
+use Rattle.std.specs.Prelude.{if◌then◌else◌}
 use mathlib.Core.Path.{◌≡◌, refl, sym, ap, ◌∙◌}
 use mathlib.Core.List.{List, [], ◌∷◌}
 use mathlib.Core.Bool.{Bool, true, false}
@@ -9,7 +10,7 @@ use lib.ListN.{length, take, drop, get_or, length-take, length-drop}
 use lib.Seq.{get_or-take, get_or-drop, ext_get_or}
 use lib.Dec.{ltb, eqb}
 use borrow.Author.Tests.{ltb-true, ltb-false, lt-ltb, le-ltb, le-leb}
-use Rattle.coding.specs.Words.{if◌then◌else◌, got, and_then, ok}
+use Rattle.coding.specs.Words.{got, and_then, ok}
 use Rattle.coding.specs.Bytes.{byte_at, be}
 use Rattle.coding.specs.Places.{part_of}
 use Rattle.coding.specs.Reading.{fixed_at, take_at}
@@ -35,7 +36,6 @@ abbrev Goes : Header → ℕ → Outcome → Outcome → Type 0
 Goes h end y x = x.said ≡ ok h → x.end ≤ end → y ≡ x
 
 if_same : (h : Header) (end : ℕ) (b : Bool) (y y' x x' : Outcome) → Goes h end y x → Goes h end y' x' → Goes h end (if b then y else y') (if b then x else x')
-unfolding if◌then◌else◌
 if_same h end true y y' x x' f g = f
 if_same h end false y y' x x' f g = g
 
@@ -47,7 +47,7 @@ pub record Steers (h : Header) (b c : ℕ) : Type 0 where
 
 -- byte 0
 first_byte : (u : List ℕ) → 0 < length u → fixed_at 1 u 0 ≡ got (byte_at u 0) 1
-unfolding fixed_at be if◌then◌else◌
+unfolding fixed_at be
 first_byte [] h = absurd (omega arith)
 first_byte (x ∷ u) h = rw (le-leb 1 (suc (length u)) (omega arith)) (ap (λ (v : ℕ). got v 1) (omega arith))
 
@@ -156,7 +156,7 @@ module _ (s t : List ℕ) (end : ℕ) (long : length s ≡ length t) (same : (i 
     module _ (b c local : ℕ) (versions : List ℕ) (grease : Bool) where
       first_long : 128 ≤ b → b / 16 ≡ c / 16 → ((x : ℕ) → h ≡ negotiate x → b % 16 ≡ c % 16)
           → Goes h end (first_at types c t local versions grease) (first_at types b s local versions grease)
-      unfolding first_at unfixed if◌then◌else◌
+      unfolding first_at unfixed
       first_long l e free =
           let k : 128 ≤ c = omega arith in
           let f : c / 64 % 2 ≡ b / 64 % 2 = omega arith in
@@ -165,7 +165,7 @@ module _ (s t : List ℕ) (end : ℕ) (long : length s ≡ length t) (same : (i 
           (long_same (b / 16) (b % 16) (c % 16) versions free))
 
       first_short : b < 128 → b / 32 ≡ c / 32 → Goes h end (first_at types c t local versions grease) (first_at types b s local versions grease)
-      unfolding first_at unfixed if◌then◌else◌
+      unfolding first_at unfixed
       first_short l e =
           let k : c < 128 = omega arith in
           let f : c / 64 % 2 ≡ b / 64 % 2 = omega arith in

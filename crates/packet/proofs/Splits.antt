@@ -1,4 +1,5 @@
 -- A packet lies within its datagram, and with the rest it makes the datagram.
+use Rattle.std.specs.Prelude.{if◌then◌else◌}
 use mathlib.Core.Path.{◌≡◌, refl, sym, ◌∙◌}
 use mathlib.Core.List.{List, ◌++◌}
 use mathlib.Core.Bool.{Bool, true, false}
@@ -9,7 +10,7 @@ use lib.ListN.{length, take, drop, length-drop, drop_of_length-le, take-append-d
 use lib.Seq.{take_all}
 use lib.Dec.{ltb}
 use borrow.Author.Tests.{ltb-true, ltb-false, le-leb, lt-ltb, le-ltb}
-use Rattle.coding.specs.Words.{if◌then◌else◌, Answer, no, ok}
+use Rattle.coding.specs.Words.{Answer, no, ok}
 use Rattle.coding.specs.Places.{part_of}
 use Rattle.coding.specs.Reading.{take_at}
 use Rattle.coding.specs.declared.Place.{Place}
@@ -88,23 +89,23 @@ module _ (s : List ℕ) (local : ℕ) (versions : List ℕ) (grease : Bool) wher
 
 module _ (s : List ℕ) (n : ℕ) where
   pub rest_some : n < length s → rest_at s n ≡ some (record { start = n; len = length s - n })
-  unfolding rest_at if◌then◌else◌
+  unfolding rest_at
   rest_some h = rw (lt-ltb _ _ h)
 
   pub rest_none : length s ≤ n → rest_at s n ≡ none
-  unfolding rest_at if◌then◌else◌
+  unfolding rest_at
   rest_none h = rw (le-ltb _ _ h)
 
   -- its bytes are what follows
   rest_part : (b : Bool) → ltb n (length s) ≡ b → part_of s (rest_in (rest_at s n)) ≡ drop n s
-  unfolding part_of rest_in if◌then◌else◌
+  unfolding part_of rest_in
   rest_part true e =
       let h = ltb-true _ _ e in
       rw (rest_some h, le-leb (n + (length s - n)) (length s) (omega arith)) (take_all (length s - n) (drop n s) (simp length-drop (omega arith)))
   rest_part false e = let h = ltb-false _ _ e in rw (rest_none h, le-leb 0 (length s) (omega arith)) (sym (drop_of_length-le s h))
 
 first_part : (s : List ℕ) (p : Place) → p.start ≡ 0 → p.len ≤ length s → part_of s p ≡ take p.len s
-unfolding part_of if◌then◌else◌
+unfolding part_of
 first_part s p a b = rw (le-leb (p.start + p.len) (length s) (omega arith), a)
 
 -- a packet followed by the rest is the datagram

@@ -1,18 +1,17 @@
 -- A header is refused 4 only where its version is not in the list, whatever the type bits mean.
 use mathlib.Core.Path.{◌≡◌}
-use mathlib.Core.List.{List}
-use mathlib.Core.Bool.{Bool, false}
-use Prim.Native.Nat.{ℕ}
+use Rattle.std.specs.Prelude.{ℕ, ◌+◌, ◌*◌, ◌/◌, ◌%◌, List, Bool, false, eqb, ltb, if◌then◌else◌}
 use native.Mathlib.Omega.{arith}
-use Rattle.coding.specs.Words.{no}
+use Rattle.coding.specs.Words.{no, and_then}
 use Rattle.coding.specs.Reading.{fixed_at, take_at}
 use Rattle.coding.specs.Varint.{var_at}
 use Rattle.coding.proofs.Rules.{if_all, then_all}
+use Rattle.shared.specs.FirstByte.{long_header_form, spin_bit}
 use Rattle.shared.specs.Cid.{long_cid_at}
 use Rattle.shared.specs.declared.cid.ConnectionId.{ConnectionId}
 use Rattle.packet.specs.TypeBits.{PacketType}
 use Rattle.packet.specs.TypeBits as type
-use Rattle.packet.specs.Header.{Header, Outcome, refused_header, listed, headed, initial_at, length_at, tail_at, body_at, long_at, short_at, first_at, header_by}
+use Rattle.packet.specs.Header.{Header, negotiate, Outcome, refused_header, listed, outside, unfixed, headed, initial_at, length_at, tail_at, body_at, long_at, short_at, first_at, header_by}
 
 module _ (versions : List ℕ) where
   abbrev Four : Outcome → Type 0
@@ -45,8 +44,11 @@ module _ (versions : List ℕ) where
     body_four : (steer rest v : ℕ) (dst src : ConnectionId) (at : ℕ) → Four (body_at types steer rest s versions v dst src at)
     unfolding body_at
     body_four steer rest v dst src at =
-        if_all Four _ _ _ (λ b. headed_four dst src v _ at) (λ b.
-        if_all Four _ _ _ (λ c. tail_four s dst src v at _) (λ c e. c))
+        let unlisted : Outcome = record { said = no 4; dst = dst; src = src; version = v; end = 0 } in
+        let negotiation : Header = negotiate (steer % 8 * 16 + rest) in
+        let tail : Outcome = tail_at (types v (steer % 4)) (headed dst src v) s at in
+        if_all Four (eqb v 0) (headed dst src v negotiation at) (if listed versions v then tail else unlisted) (λ b. headed_four dst src v negotiation at) (λ b.
+        if_all Four (listed versions v) tail unlisted (λ c. tail_four s dst src v at (types v (steer % 4))) (λ c e. c))
 
     long_four : (steer rest : ℕ) → Four (long_at types steer rest s versions)
     unfolding long_at
@@ -63,7 +65,11 @@ module _ (versions : List ℕ) where
     pub four_unlisted : (local : ℕ) (grease : Bool) → Four (header_by types s local versions grease)
     unfolding header_by first_at
     four_unlisted local grease =
-        if_all Four _ _ _ (λ b. refused_four 14 (λ z. omega (arith, z))) (λ b.
-        then_all Four (fixed_at 1 s 0) _ _ (λ e. refused_four 1 (λ z. omega (arith, z))) (λ first n e.
-        if_all Four _ _ _ (λ c. refused_four 2 (λ z. omega (arith, z))) (λ c.
-        if_all Four _ _ _ (λ d. short_four _ local) (λ d. long_four _ _))))
+        let by : ℕ → Outcome = λ first. first_at types first s local versions grease in
+        let read : Outcome = and_then (fixed_at 1 s 0) (refused_header 1) (λ first n. by first) in
+        if_all Four (outside s local versions) (refused_header 14) read (λ b. refused_four 14 (λ z. omega (arith, z))) (λ b.
+        then_all Four (fixed_at 1 s 0) (refused_header 1) (λ first n. by first) (λ e. refused_four 1 (λ z. omega (arith, z))) (λ first n e.
+        let brief : Outcome = short_at (first / spin_bit) s local in
+        let long : Outcome = long_at types (first / 16) (first % 16) s versions in
+        if_all Four (unfixed first grease) (refused_header 2) (if ltb first long_header_form then brief else long) (λ c. refused_four 2 (λ z. omega (arith, z))) (λ c.
+        if_all Four (ltb first long_header_form) brief long (λ d. short_four (first / spin_bit) local) (λ d. long_four (first / 16) (first % 16)))))

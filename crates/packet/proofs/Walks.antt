@@ -1,4 +1,5 @@
 -- The walk: its packets lie in line in the datagram and cover it, and repeating the step is the walk.
+use Rattle.std.specs.Prelude.{if◌then◌else◌}
 use mathlib.Core.Path.{◌≡◌, refl, sym, ap, ◌∙◌}
 use mathlib.Core.List.{List, [], ◌∷◌}
 use mathlib.Core.Bool.{Bool, true, false}
@@ -9,7 +10,7 @@ use lib.ListN.{length, drop, length-drop}
 use lib.Seq.{drop-drop}
 use lib.Dec.{ltb}
 use borrow.Author.Tests.{ltb-true, ltb-false, lt-leb, le-leb, eq-eqb, ne_eqb}
-use Rattle.coding.specs.Words.{if◌then◌else◌, and_then, Answer, no, ok}
+use Rattle.coding.specs.Words.{and_then, Answer, no, ok}
 use Rattle.coding.proofs.Laws.{fixed_none}
 use Rattle.packet.specs.Header.{Header, initial, zero_rtt, handshake, retry, short, negotiate, refused_header, outside, header_by, header_at}
 use Rattle.packet.specs.Split.{Split, no_packet, split_on, split_with, split_at}
@@ -173,20 +174,20 @@ repeated (suc n) s at local versions grease =
 
 module _ (s : List ℕ) (local : ℕ) (versions : List ℕ) (grease : Bool) where
   pub step_out : (at : ℕ) → outside s local versions ≡ true → packet_step_at s at local versions grease ≡ stop_at at 14
-  unfolding packet_step_at if◌then◌else◌
+  unfolding packet_step_at
   step_out at o = rw o
 
   module _ (o : outside s local versions ≡ false) (at : ℕ) where
     pub step_empty : length s ≡ 0 → packet_step_at s at local versions grease ≡ stop_at at 1
-    unfolding packet_step_at if◌then◌else◌
+    unfolding packet_step_at
     step_empty e = rw (o, eq-eqb _ _ e)
 
     pub step_end : 0 < length s → length s ≤ at → packet_step_at s at local versions grease ≡ record { met = at_end; header = refused_header 1 }
-    unfolding packet_step_at if◌then◌else◌
+    unfolding packet_step_at
     step_end p l = rw (o, ne_eqb (length s) 0 (λ e. omega arith), le-leb _ _ l)
 
     pub step_in : at < length s → packet_step_at s at local versions grease ≡ step_on at (split_at (drop at s) local versions grease)
-    unfolding packet_step_at if◌then◌else◌
+    unfolding packet_step_at
     step_in l = rw (o, ne_eqb (length s) 0 (λ e. omega arith), lt-leb _ _ l)
 
   module _ (o : outside s local versions ≡ false) where
@@ -238,11 +239,11 @@ module _ (s : List ℕ) (local : ℕ) (versions : List ℕ) (grease : Bool) wher
   repeated_refused k n e = rw e
 
   pub header_outside : outside s local versions ≡ true → header_at s local versions grease ≡ refused_header 14
-  unfolding header_by if◌then◌else◌
+  unfolding header_by
   header_outside o = rw o
 
   header_empty : outside s local versions ≡ false → length s ≡ 0 → header_at s local versions grease ≡ refused_header 1
-  unfolding header_by if◌then◌else◌ and_then
+  unfolding header_by and_then
   header_empty o e = rw (o, ← fixed_none 1 s 0 (omega arith))
 
   -- the walk is the step, repeated

@@ -1,22 +1,21 @@
 -- A header lies within its bytes and its token within it, whatever the type bits mean.
 use mathlib.Core.Path.{◌≡◌, refl}
-use mathlib.Core.List.{List}
-use mathlib.Core.Bool.{Bool}
-use Prim.Native.Nat.{ℕ, ◌+◌, ◌≤◌}
+use Rattle.std.specs.Prelude.{ℕ, ◌+◌, ◌*◌, ◌/◌, ◌%◌, ◌≤◌, List, Bool, eqb, ltb, if◌then◌else◌}
 use native.Mathlib.Omega.{arith}
 use lib.ListN.{length}
-use Rattle.coding.specs.Words.{no, ok}
+use Rattle.coding.specs.Words.{no, ok, and_then}
 use Rattle.coding.specs.Reading.{fixed_at, take_at}
 use Rattle.coding.specs.Varint.{var_at}
 use Rattle.coding.proofs.Laws.{fixed_inside, take_inside, var_inside}
 use Rattle.coding.proofs.Rules.{if_all, then_all}
+use Rattle.shared.specs.FirstByte.{long_header_form, spin_bit}
 use Rattle.shared.specs.Cid.{long_cid_at, cid_on}
 use Rattle.shared.specs.declared.cid.ConnectionId.{ConnectionId}
 use Rattle.shared.proofs.Laws.{long_inside}
 use Rattle.packet.specs.TypeBits.{PacketType}
 use Rattle.packet.specs.TypeBits as type
 use Rattle.packet.specs.Split.{nowhere, token_in}
-use Rattle.packet.specs.Header.{Header, initial, zero_rtt, handshake, retry, short, negotiate, Outcome, refused_header, headed, initial_at, length_at, tail_at, body_at, long_at, short_at, first_at, header_by}
+use Rattle.packet.specs.Header.{Header, initial, zero_rtt, handshake, retry, short, negotiate, Outcome, refused_header, listed, outside, unfixed, headed, initial_at, length_at, tail_at, body_at, long_at, short_at, first_at, header_by}
 
 -- the fewest bytes that a header of each kind has
 abbrev pub least : Header → ℕ
@@ -84,8 +83,12 @@ module _ (s : List ℕ) where
         → Within s at (body_at types steer rest s versions v dst src at)
     unfolding body_at token_in
     body_within steer rest versions v dst src at past h =
-        if_all (Within s at) _ _ _ (λ b. headed_within at dst src v _ at (bare at _ at refl (omega arith) past h)) (λ b.
-        if_all (Within s at) _ _ _ (λ c. tail_within dst src v at past _ h) (λ c. no_within at 4 (record { said = no 4; dst = dst; src = src; version = v; end = 0 }) (omega arith) refl refl))
+        let unlisted : Outcome = record { said = no 4; dst = dst; src = src; version = v; end = 0 } in
+        let negotiation : Header = negotiate (steer % 8 * 16 + rest) in
+        let tail : Outcome = tail_at (types v (steer % 4)) (headed dst src v) s at in
+        if_all (Within s at) (eqb v 0) (headed dst src v negotiation at) (if listed versions v then tail else unlisted)
+        (λ b. headed_within at dst src v negotiation at (bare at negotiation at refl (omega arith) past h)) (λ b.
+        if_all (Within s at) (listed versions v) tail unlisted (λ c. tail_within dst src v at past (types v (steer % 4)) h) (λ c. no_within at 4 unlisted (omega arith) refl refl))
 
     long_within : (steer rest : ℕ) (versions : List ℕ) → Within s 1 (long_at types steer rest s versions)
     unfolding long_at
@@ -109,7 +112,11 @@ module _ (s : List ℕ) where
     pub header_within : (local : ℕ) (versions : List ℕ) (grease : Bool) → Within s 1 (header_by types s local versions grease)
     unfolding header_by first_at
     header_within local versions grease =
-        if_all (Within s 1) _ _ _ (λ b. refuse_within 1 14 (omega arith)) (λ b.
-        then_all (Within s 1) (fixed_at 1 s 0) _ _ (λ e. refuse_within 1 1 (omega arith)) (λ first n e.
-        if_all (Within s 1) _ _ _ (λ c. refuse_within 1 2 (omega arith)) (λ c.
-        if_all (Within s 1) _ _ _ (λ d. short_within _ local) (λ d. long_within _ _ versions))))
+        let by : ℕ → Outcome = λ first. first_at types first s local versions grease in
+        let read : Outcome = and_then (fixed_at 1 s 0) (refused_header 1) (λ first n. by first) in
+        if_all (Within s 1) (outside s local versions) (refused_header 14) read (λ b. refuse_within 1 14 (omega arith)) (λ b.
+        then_all (Within s 1) (fixed_at 1 s 0) (refused_header 1) (λ first n. by first) (λ e. refuse_within 1 1 (omega arith)) (λ first n e.
+        let brief : Outcome = short_at (first / spin_bit) s local in
+        let long : Outcome = long_at types (first / 16) (first % 16) s versions in
+        if_all (Within s 1) (unfixed first grease) (refused_header 2) (if ltb first long_header_form then brief else long) (λ c. refuse_within 1 2 (omega arith)) (λ c.
+        if_all (Within s 1) (ltb first long_header_form) brief long (λ d. short_within (first / spin_bit) local) (λ d. long_within (first / 16) (first % 16) versions))))

@@ -1,7 +1,7 @@
 -- A packet's header as far as it can be read without keys: RFC 9000, 17.2 and 17.3; Version Negotiation: RFC 8999, 6.
-use Rattle.std.specs.Prelude.{ℕ, ◌+◌, ◌*◌, ◌/◌, ◌%◌, List, [], ◌∷◌, Bool, false, not, ◌&&◌, ◌||◌, length, ltb, eqb}
+use Rattle.std.specs.Prelude.{ℕ, ◌+◌, ◌*◌, ◌/◌, ◌%◌, List, [], ◌∷◌, Bool, false, not, ◌&&◌, ◌||◌, length, ltb, eqb, if◌then◌else◌}
 use Rattle.std.proofs.Math.Option.{Option, none, some}
-use Rattle.coding.specs.Words.{if◌then◌else◌, and_then, Answer, no, ok, max_datagram}
+use Rattle.coding.specs.Words.{and_then, Answer, no, ok, max_datagram}
 use Rattle.coding.specs.Reading.{fixed_at, take_at}
 use Rattle.coding.specs.Varint.{var_at}
 use Rattle.coding.specs.declared.Place.{Place}

@@ -1,7 +1,7 @@
 -- Where the first packet of a datagram ends: RFC 9000, 12.2 and 17.2.
-use Rattle.std.specs.Prelude.{ℕ, ◌-◌, List, Bool, length, ltb}
+use Rattle.std.specs.Prelude.{ℕ, ◌-◌, List, Bool, length, ltb, if◌then◌else◌}
 use Rattle.std.proofs.Math.Option.{Option, none, some}
-use Rattle.coding.specs.Words.{if◌then◌else◌, and_then, Answer, no, ok}
+use Rattle.coding.specs.Words.{and_then, Answer, no, ok}
 use Rattle.coding.specs.Reading.{take_at}
 use Rattle.coding.specs.declared.Place.{Place}
 use Rattle.packet.specs.TypeBits.{PacketType, type_of}

@@ -1,6 +1,5 @@
 -- What the two type bits of a long header mean, by the version: RFC 9000, 17.2, table 5; for version 2, RFC 9369, 3.2.
-use Rattle.std.specs.Prelude.{ℕ, eqb}
-use Rattle.coding.specs.Words.{if◌then◌else◌}
+use Rattle.std.specs.Prelude.{ℕ, eqb, if◌then◌else◌}
 
 pub data PacketType : Type 0 where
   initial : PacketType

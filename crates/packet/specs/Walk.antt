@@ -1,7 +1,7 @@
 -- The walk over a datagram's packets: RFC 9000, 12.2.
-use Rattle.std.specs.Prelude.{ℕ, zero, suc, ◌+◌, List, [], ◌∷◌, Bool, length, drop, leb, eqb}
+use Rattle.std.specs.Prelude.{ℕ, zero, suc, ◌+◌, List, [], ◌∷◌, Bool, length, drop, leb, eqb, if◌then◌else◌}
 use Rattle.std.proofs.Math.Option.{Option-elim}
-use Rattle.coding.specs.Words.{if◌then◌else◌, Answer, no, ok}
+use Rattle.coding.specs.Words.{Answer, no, ok}
 use Rattle.packet.specs.Header.{Header, Outcome, refused_header, outside}
 use Rattle.packet.specs.Split.{Split, split_at}
 

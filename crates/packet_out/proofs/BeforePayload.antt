@@ -1,4 +1,5 @@
 -- The header before a payload, over lent connection ids: with encode's placeholder, and with its Length.
+use Rattle.std.specs.Prelude.{if◌then◌else◌}
 use Prim.Native.Nat.{ℕ, ◌+◌, ◌^◌, ◌≤◌, ◌<◌}
 use mathlib.Core.Path.{◌≡◌, refl, ap, ◌∙◌}
 use mathlib.Core.List.{List, ◌∷◌}
@@ -8,7 +9,7 @@ use native.Mathlib.Nat.{add-zero}
 use lib.ListN.{length}
 use lib.Dec.{leb}
 use borrow.Author.Tests.{le-leb, lt-leb}
-use Rattle.coding.specs.Words.{if◌then◌else◌, no}
+use Rattle.coding.specs.Words.{no}
 use Rattle.coding.specs.Bytes.{bytes_be}
 use Rattle.shared.specs.Cid.{cid_of, cid_bytes, long_bytes}
 use Rattle.shared.specs.declared.cid.ConnectionId.{ConnectionId}
@@ -34,12 +35,12 @@ and_false false = refl
 
 module _ (p : Plain) (dst src : ConnectionId) (token : List ℕ) (n : ℕ) where
   pub with_not : length_fits (shape_by bits_of p).has_length (number_size p + n) ≡ false → header_with p dst src token n ≡ no 14
-  unfolding header_with fits if◌then◌else◌
+  unfolding header_with fits
   with_not h = rw (h, and_false (roomy p dst src token n))
 
   same_header : (b : Bool) (m : ℕ) → (shape_by bits_of p).has_length ≡ b
       → written_header bits_of (bytes_be 2 (field_for b m)) p dst src token ≡ written_header bits_of (length_field m) p dst src token
-  unfolding field_for length_field if◌then◌else◌
+  unfolding field_for length_field
   same_header true m e = refl
   same_header false m e = without bits_of p dst src token (bytes_be 2 0) (bytes_be 2 (2 ^ 14 + m)) e
 
@@ -51,7 +52,6 @@ module _ (p : Plain) (dst src : ConnectionId) (token : List ℕ) (n : ℕ) where
 -- ---- encode's, of a connection id by value
 
 both : {A : Type 0} (a b : Bool) (x y : A) → (if a && b then x else y) ≡ (if a then (if b then x else y) else y)
-unfolding if◌then◌else◌
 both true b x y = refl
 both false b x y = refl
 
@@ -62,11 +62,11 @@ module _ (c : ConnectionId) (h : c.len ≤ length c.bytes) where
 
 module _ (p : Plain) (dst src : ConnectionId) (token : List ℕ) where
   pub out_wide : 20 < dst.len → header_out bits_of p dst src token ≡ no 14
-  unfolding header_out keep_rules if◌then◌else◌
+  unfolding header_out keep_rules
   out_wide h = rw (lt-leb _ _ h)
 
   pub out_wide_src : dst.len ≤ 20 → 20 < src.len → header_out bits_of p dst src token ≡ no 14
-  unfolding header_out keep_rules if◌then◌else◌
+  unfolding header_out keep_rules
   out_wide_src h k = rw (le-leb _ _ h, lt-leb _ _ k)
 
   module _ (to : dst.len ≤ length dst.bytes) (from : src.len ≤ length src.bytes) where

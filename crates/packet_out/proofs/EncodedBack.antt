@@ -1,5 +1,6 @@
 -- What encode writes is read back: before the Length step, with its two bytes of 0 read as a Length of 0 in one byte, and after it;
 -- over any pair of tables of types and their inverses, by the version.
+use Rattle.std.specs.Prelude.{if◌then◌else◌}
 use Prim.Native.Nat.{ℕ, ◌+◌, ◌*◌, ◌/◌, ◌%◌, ◌^◌, ◌≤◌, ◌<◌}
 use mathlib.Core.Path.{◌≡◌, refl, sym, ap, ◌∙◌}
 use mathlib.Core.List.{List, ◌∷◌, ◌++◌, append_assoc}
@@ -9,7 +10,7 @@ use native.Mathlib.Omega.{arith}
 use lib.ListN.{length, drop, get_or, length-append}
 use lib.Seq.{get_or-append_seam, drop-append-add}
 use borrow.Author.Tests.{lt-ltb, le-leb}
-use Rattle.coding.specs.Words.{if◌then◌else◌, got, Answer, no, ok}
+use Rattle.coding.specs.Words.{got, Answer, no, ok}
 use Rattle.coding.specs.Bytes.{be, bytes_be}
 use Rattle.coding.specs.Places.{part_of}
 use Rattle.coding.specs.Varint.{var_len, var_at, var_tag, var_size, var_bytes}
@@ -33,12 +34,12 @@ use Rattle.packet_out.proofs.HeaderBack.{Steers, up_to, header_back_law}
 -- ---- the Length's two bytes
 
 pub reads_placeholder : ReadsAs placeholder 0 1
-unfolding bytes_be var_bytes var_size var_tag if◌then◌else◌
+unfolding bytes_be var_bytes var_size var_tag
 reads_placeholder p q = var_back p (0 ∷ q) 0 (omega arith)
 
 -- two bytes whose first has 01 on top
 two_bytes : (p q : List ℕ) (x y n : ℕ) → x / 64 ≡ 1 → x % 64 * 256 + y ≡ n → var_at (p ++ (x ∷ (y ∷ q))) (length p) ≡ got n (length p + 2)
-unfolding var_at var_len be if◌then◌else◌
+unfolding var_at var_len be
 two_bytes p q x y n e v =
     let s : List ℕ = p ++ (x ∷ (y ∷ q)) in
     let first : get_or s (length p) 0 ≡ x = get_or-append_seam p x (y ∷ q) 0 in
@@ -57,7 +58,7 @@ unfolding number_keeps
 low_small c e = omega (arith, cut_short c e)
 
 short_steers : (spin phase : Bool) (low : ℕ) → low < 4 → (fixed_bit + bit_if spin spin_bit + bit_if phase key_phase_bit + low) / 32 ≡ 2 + bit_if spin 1
-unfolding bit_if if◌then◌else◌
+unfolding bit_if
 short_steers true true low h = omega (arith, h)
 short_steers true false low h = omega (arith, h)
 short_steers false true low h = omega (arith, h)
@@ -94,7 +95,7 @@ pub record WasWritten (bits : ℕ → PacketType → ℕ) (p : Plain) (dst src :
   pub few : (shape_by bits p).has_token ≡ true → length token < 2 ^ 62
 
 pub was_written : (bits : ℕ → PacketType → ℕ) (p : Plain) (dst src : ConnectionId) (token bs : List ℕ) → header_out bits p dst src token ≡ ok bs → WasWritten bits p dst src token bs
-unfolding header_out written_header if◌then◌else◌
+unfolding header_out written_header
 was_written bits p dst src token bs = go (keep_rules (plain_number p) dst src) refl
   where
     all : List ℕ
@@ -134,7 +135,7 @@ encode_back_by_version = encode_back type_of bits_of tables
 -- and the token stands in its place
 pub token_back : (bits : ℕ → PacketType → ℕ) (p : Plain) (dst src : ConnectionId) (b : ℕ) (token field past : List ℕ) → (shape_by bits p).has_token ≡ true
     → part_of (b ∷ up_to bits p dst src token field past) (token_place bits p dst src token) ≡ token
-unfolding up_to token_place token_bytes if◌then◌else◌
+unfolding up_to token_place token_bytes
 token_back bits p dst src b token field past h =
     let w : List ℕ = (b ∷ names_bytes (shape_by bits p).version dst src) ++ var_bytes (length token) in
     let l : 1 + length (names_bytes (shape_by bits p).version dst src) + var_size (length token) ≡ length w = simp (length-append, length_var) (omega arith) in

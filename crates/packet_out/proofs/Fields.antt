@@ -1,11 +1,12 @@
 -- The fields of a written header, each read back where it stands.
+use Rattle.std.specs.Prelude.{if◌then◌else◌}
 use Prim.Native.Nat.{ℕ, ◌+◌, ◌%◌, ◌^◌, ◌≤◌, ◌<◌}
 use mathlib.Core.Path.{◌≡◌, refl, sym, ◌∙◌}
 use mathlib.Core.List.{List, [], ◌∷◌, ◌++◌, append_assoc}
 use native.Mathlib.Omega.{arith}
 use lib.ListN.{length, length-append}
 use borrow.Author.Tests.{le-leb}
-use Rattle.coding.specs.Words.{if◌then◌else◌, got, and_then}
+use Rattle.coding.specs.Words.{got, and_then}
 use Rattle.coding.specs.Bytes.{bytes_be}
 use Rattle.coding.specs.Reading.{fixed_at, take_at}
 use Rattle.coding.specs.Varint.{var_at, var_bytes, var_size}
@@ -43,7 +44,7 @@ module _ (s p q : List ℕ) (at : ℕ) (ea : at ≡ length p) where
     cid_here = rw (es, ea) (long_back p q c short all)
 
     pub bytes_here : cid_on s (behind at c) ≡ cid_of (cid_bytes c)
-    unfolding cid_on if◌then◌else◌
+    unfolding cid_on
     bytes_here = rw (es, ea, le-leb _ _ short, bytes_back p q c short all)
 
 -- ---- what stands past the connection ids

@@ -1,5 +1,6 @@
 -- A written header is read back, whatever stands past it, and whatever the bits of its first byte that do not steer: once over
 -- any pair of tables of types and their inverses, by the version.
+use Rattle.std.specs.Prelude.{if◌then◌else◌}
 use Prim.Native.Nat.{ℕ, ◌+◌, ◌*◌, ◌/◌, ◌%◌, ◌^◌, ◌≤◌, ◌<◌}
 use mathlib.Core.Path.{◌≡◌, refl, ap, ◌∙◌}
 use mathlib.Core.List.{List, [], ◌∷◌, ◌++◌, append_assoc}
@@ -10,7 +11,7 @@ use native.Mathlib.Omega.{arith}
 use lib.Dec.{ltb, eqb}
 use lib.ListN.{length, length-append}
 use borrow.Author.Tests.{le-leb, lt-ltb, le-ltb, eq-eqb, ne_eqb}
-use Rattle.coding.specs.Words.{if◌then◌else◌, got, and_then}
+use Rattle.coding.specs.Words.{got, and_then}
 use Rattle.coding.specs.Bytes.{be, bytes_be}
 use Rattle.coding.specs.Places.{part_of}
 use Rattle.coding.specs.Reading.{fixed_at, take_at}
@@ -34,7 +35,7 @@ use Rattle.packet_out.proofs.Fields.{ReadsAs, take_here, names_back, initial_bac
 -- ---- the first byte
 
 first_here : (b : ℕ) (l : List ℕ) → fixed_at 1 (b ∷ l) 0 ≡ got b 1
-unfolding fixed_at be if◌then◌else◌
+unfolding fixed_at be
 first_here b l = let e : 0 * 256 + b ≡ b = omega arith in rw (le-leb 1 (length (b ∷ l)) (omega arith)) (ap (λ (x : ℕ). got x 1) e)
 
 -- its fixed bit is set
@@ -46,7 +47,7 @@ fixed_set b false h = ne_eqb (b / 64 % 2) 0 (λ z. omega (arith, h, z))
 -- a packet whose arguments keep their rules and whose first byte is not refused
 begun : (types : ℕ → ℕ → PacketType) (b : ℕ) (l : List ℕ) (local : ℕ) (versions : List ℕ) (grease : Bool) → outside (b ∷ l) local versions ≡ false → unfixed b grease ≡ false
     → read.header_by types (b ∷ l) local versions grease ≡ (if ltb b 128 then short_at (b / 32) (b ∷ l) local else long_at types (b / 16) (b % 16) (b ∷ l) versions)
-unfolding read.header_by first_at and_then if◌then◌else◌
+unfolding read.header_by first_at and_then
 begun types b l local versions grease o u = rw (o, first_here b l, u)
 
 -- ---- long headers
@@ -61,7 +62,6 @@ module _ (types : ℕ → ℕ → PacketType) (dst src : ConnectionId) (to : dst
   -- as far as the connection ids
   named : read.header_by types (b ∷ (names_bytes (some v) dst src ++ q)) local versions grease
       ≡ body_at types (b / 16) (b % 16) (b ∷ (names_bytes (some v) dst src ++ q)) versions v (cid_of (cid_bytes dst)) (cid_of (cid_bytes src)) (1 + length (names_bytes (some v) dst src))
-  unfolding if◌then◌else◌
   named =
       let a : 1 + length (names_bytes (some v) dst src) ≡ 5 + 1 + dst.len + 1 + src.len = omega (arith, length_names dst src (omega arith) v (omega arith)) in
       begun types b (names_bytes (some v) dst src ++ q) local versions grease o u
@@ -72,13 +72,13 @@ module _ (types : ℕ → ℕ → PacketType) (dst src : ConnectionId) (to : dst
   pub typed : (t : PacketType) → types v (b / 16 % 4) ≡ t → listed versions v ≡ true → (v ≡ 0 → ⊥)
       → read.header_by types (b ∷ (names_bytes (some v) dst src ++ q)) local versions grease
       ≡ tail_at t (headed (cid_of (cid_bytes dst)) (cid_of (cid_bytes src)) v) (b ∷ (names_bytes (some v) dst src ++ q)) (1 + length (names_bytes (some v) dst src))
-  unfolding body_at if◌then◌else◌
+  unfolding body_at
   typed t e l z = named ∙ rw (ne_eqb v 0 z, l, e)
 
   -- Version Negotiation
   pub negotiated : v ≡ 0 → read.header_by types (b ∷ (names_bytes (some v) dst src ++ q)) local versions grease
       ≡ headed (cid_of (cid_bytes dst)) (cid_of (cid_bytes src)) v (read.negotiate (b / 16 % 8 * 16 + b % 16)) (1 + length (names_bytes (some v) dst src))
-  unfolding body_at if◌then◌else◌
+  unfolding body_at
   negotiated z = named ∙ rw (eq-eqb v 0 z)
 
 -- ---- short headers
@@ -87,7 +87,7 @@ module _ (types : ℕ → ℕ → PacketType) (dst src : ConnectionId) (to : dst
     (o : outside (b ∷ (names_bytes none dst src ++ q)) dst.len versions ≡ false) (u : unfixed b grease ≡ false) (form : b < 128) where
   pub short_back : read.header_by types (b ∷ (names_bytes none dst src ++ q)) dst.len versions grease
       ≡ headed (cid_of (cid_bytes dst)) (cid_of []) 0 (read.short (eqb (b / 32 % 2) 1)) (1 + length (names_bytes none dst src))
-  unfolding names_bytes short_at and_then cid_on if◌then◌else◌
+  unfolding names_bytes short_at and_then cid_on
   short_back =
       let s : List ℕ = b ∷ (cid_bytes dst ++ q) in
       let l : length (cid_bytes dst) ≡ dst.len = length_cid dst (omega arith) in
@@ -111,12 +111,12 @@ Steers bits (short spin phase c) b = b / 32 ≡ 2 + bit_if spin 1
 Steers bits (negotiate random) b = b ≡ long_header_form + random % long_header_form
 
 pub bit_small : (spin : Bool) → bit_if spin 1 ≤ 1
-unfolding bit_if if◌then◌else◌
+unfolding bit_if
 bit_small true = omega arith
 bit_small false = omega arith
 
 spin_bit : (spin : Bool) (x : ℕ) → x ≡ 2 + bit_if spin 1 → eqb (x % 2) 1 ≡ spin
-unfolding bit_if if◌then◌else◌
+unfolding bit_if
 spin_bit true x e = eq-eqb (x % 2) 1 (omega (arith, e))
 spin_bit false x e = ne_eqb (x % 2) 1 (λ z. omega (arith, e, z))
 
@@ -144,7 +144,7 @@ module _ (types : ℕ → ℕ → PacketType) (bits : ℕ → PacketType → ℕ
     pub header_back_law : (p : Plain) (b : ℕ) → Steers bits p b → ((shape_by bits p).has_length ≡ true → ReadsAs field n m) → ((shape_by bits p).has_token ≡ true → length token < 2 ^ 62) → Kept (plain_number p) dst src → Typed p dst src → Readable p dst local versions grease
         → outside (b ∷ up_to bits p dst src token field past) local versions ≡ false
         → read.header_by types (b ∷ up_to bits p dst src token field past) local versions grease ≡ read_as bits p dst src token n m
-    unfolding Steers Readable up_to shape_by read_as kind_read version_read src_read token_place end_read token_bytes length_bytes if◌then◌else◌ tail_at
+    unfolding Steers Readable up_to shape_by read_as kind_read version_read src_read token_place end_read token_bytes length_bytes tail_at
     header_back_law (initial c v) b e r small k y d o =
         let w : List ℕ = b ∷ names_bytes (some v) dst src in
         let x : length (var_bytes (length token) ++ token) ≡ var_size (length token) + length token = simp (length-append, length_var) in

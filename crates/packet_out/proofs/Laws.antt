@@ -1,4 +1,5 @@
 -- The cases of what is written, each from the tests that lead to it.
+use Rattle.std.specs.Prelude.{if◌then◌else◌}
 use Prim.Native.Nat.{ℕ, ◌+◌, ◌-◌, ◌^◌, ◌≤◌, ◌<◌}
 use mathlib.Core.Path.{◌≡◌, refl, sym, ap, ◌∙◌}
 use mathlib.Core.List.{List, ◌∷◌, ◌++◌}
@@ -8,7 +9,7 @@ use native.Mathlib.Omega.{arith}
 use lib.ListN.{length, replicate, length-append}
 use lib.Dec.{leb}
 use borrow.Author.Tests.{le-leb, lt-leb, leb-true, leb-false, ltb-true, lt-ltb, le-ltb}
-use Rattle.coding.specs.Words.{if◌then◌else◌, Answer, no, ok}
+use Rattle.coding.specs.Words.{Answer, no, ok}
 use Rattle.coding.specs.Refusals.{number_of}
 use Rattle.coding.specs.Bytes.{splice}
 use Rattle.coding.specs.Varint.{var_size}
@@ -38,7 +39,7 @@ use Rattle.packet_out.specs.Length.{length_field, length_into, length_set}
 
 module _ (r : Tagged) (c : CutNumber) (e : tag_of r ≡ cut_tag c) where
   pub tag_kept : (t : ℕ) → r ≡ tagged.Tag t → (is_cut c ≡ true) × (t ≡ c.0 - 1)
-  unfolding tag_of cut_tag if◌then◌else◌
+  unfolding tag_of cut_tag
   tag_kept t q = go (is_cut c) refl (rw q at e)
     where
       go : (b : Bool) → is_cut c ≡ b → ok t ≡ (if b then ok (c.0 - 1) else no 14) → (is_cut c ≡ true) × (t ≡ c.0 - 1)
@@ -46,7 +47,7 @@ module _ (r : Tagged) (c : CutNumber) (e : tag_of r ≡ cut_tag c) where
       go false s h = let z : ◌≡◌ {A = ℕ} 0 1 = cc in absurd (omega arith)
 
   pub tag_not : (why : Refusal) → r ≡ tagged.Refused why → is_cut c ≡ false
-  unfolding tag_of cut_tag if◌then◌else◌
+  unfolding tag_of cut_tag
   tag_not why q = go (is_cut c) refl (rw q at e)
     where
       go : (b : Bool) → is_cut c ≡ b → no (number_of why) ≡ (if b then ok (c.0 - 1) else no 14) → is_cut c ≡ false
@@ -105,7 +106,7 @@ unfolding long_bytes cid_of
 lent_long bs = ap (λ (l : List ℕ). length bs ∷ l) (cid_same bs)
 
 pub length_token : (token : List ℕ) → length (token_bytes true token) ≡ var_size (length token) + length token
-unfolding token_bytes if◌then◌else◌
+unfolding token_bytes
 length_token token = simp (length-append, length_var)
 
 -- a number that keeps its rule has at most four bytes
@@ -138,7 +139,7 @@ length_shape field shape number dst src token = simp length-append (omega arith)
 
 -- it goes by the length of what stands for the Length
 length_lengths : (b : Bool) (x y : List ℕ) → length x ≡ length y → length (length_bytes b x) ≡ length (length_bytes b y)
-unfolding length_bytes if◌then◌else◌
+unfolding length_bytes
 length_lengths true x y e = e
 length_lengths false x y e = refl
 
@@ -151,15 +152,15 @@ length_fields x y shape number dst src token e =
 
 module _ {A : Type 0} (bs : List ℕ) (a : A) where
   pub header_fits : length bs ≤ 65527 → in_header bs a ≡ ok a
-  unfolding in_header if◌then◌else◌
+  unfolding in_header
   header_fits h = simp (le-leb _ _ h)
 
   pub header_long : 65527 < length bs → in_header bs a ≡ no 14
-  unfolding in_header if◌then◌else◌
+  unfolding in_header
   header_long h = simp (lt-leb _ _ h)
 
   pub fits_seen : (b : A) → in_header bs a ≡ ok b → (length bs ≤ 65527) × (a ≡ b)
-  unfolding in_header if◌then◌else◌
+  unfolding in_header
   fits_seen b = go (leb (length bs) 65527) refl
     where
       go : (t : Bool) → leb (length bs) 65527 ≡ t → ◌≡◌ {A = Answer A} (if t then ok a else no 14) (ok b) → (length bs ≤ 65527) × (a ≡ b)
@@ -167,7 +168,7 @@ module _ {A : Type 0} (bs : List ℕ) (a : A) where
       go false e h = let z : ◌≡◌ {A = ℕ} 0 1 = cc in absurd (omega arith)
 
   pub long_seen : (k : ℕ) → in_header bs a ≡ no k → 65527 < length bs
-  unfolding in_header if◌then◌else◌
+  unfolding in_header
   long_seen k = go (leb (length bs) 65527) refl
     where
       go : (t : Bool) → leb (length bs) 65527 ≡ t → ◌≡◌ {A = Answer A} (if t then ok a else no 14) (no k) → 65527 < length bs
@@ -179,7 +180,7 @@ module _ {A : Type 0} (bs : List ℕ) (a : A) where
 module _ (field : List ℕ) (shape : Shape) (number : Option CutNumber) (dst src : ConnectionId) (token : List ℕ) (fixed : ℕ)
     (e : fixed ≡ 1 + (length (names_bytes shape.version dst src) + (length (length_bytes shape.has_length field) + length (number_field number)))) where
   pub size_bare : shape.has_token ≡ false → length (shape_bytes field shape number dst src token) ≡ fixed
-  unfolding token_bytes if◌then◌else◌
+  unfolding token_bytes
   size_bare h =
       let t : length (token_bytes shape.has_token token) ≡ 0 = rw h in
       omega (arith, length_shape field shape number dst src token)
@@ -193,7 +194,7 @@ module _ (field : List ℕ) (shape : Shape) (number : Option CutNumber) (dst src
 
 module _ (field : List ℕ) (p : Plain) (dst src : ConnectionId) (token : List ℕ) (n : ℕ) (number : Option CutNumber) (en : number ≡ plain_number p) where
   pub out_rules : keep_rules number dst src ≡ false → header_before field p dst src token n ≡ no 14
-  unfolding header_before roomy if◌then◌else◌
+  unfolding header_before roomy
   out_rules k = rw (← en, k)
 
   module _ (k : keep_rules number dst src ≡ true) (shape : Shape) (es : shape ≡ shape_by bits_of p) where
@@ -202,12 +203,12 @@ module _ (field : List ℕ) (p : Plain) (dst src : ConnectionId) (token : List �
     same x = rw (es, en)
 
     pub out_long : 65527 < length (shape_bytes placeholder shape number dst src token) + n → header_before field p dst src token n ≡ no 14
-    unfolding header_before roomy if◌then◌else◌
+    unfolding header_before roomy
     out_long h = rw (← en, k, lt-leb _ _ (rw (same placeholder) at h))
 
     pub out_ok : length (shape_bytes placeholder shape number dst src token) + n ≤ 65527
         → header_before field p dst src token n ≡ ok (shape_bytes field shape number dst src token)
-    unfolding header_before roomy if◌then◌else◌
+    unfolding header_before roomy
     out_ok h = rw (← en, k, le-leb _ _ (rw (same placeholder) at h)) (ap ok (sym (same field)))
 
     -- the Length's two bytes do not count otherwise
@@ -236,7 +237,7 @@ module _ (p : Plain) {w : Answer (List ℕ)} {old new : List ℕ} where
 
 -- a Length that fits its two bytes
 pub length_small : (has : Bool) (n : ℕ) → has ≡ true → length_fits has n ≡ true → n < 2 ^ 14
-unfolding length_fits if◌then◌else◌
+unfolding length_fits
 length_small has n e h = ltb-true n (2 ^ 14) (rw e at h)
 
 -- ---- the Length step
@@ -262,23 +263,23 @@ tests_length header_len len number h =
 
 module _ (header_len : ℕ) (number : Option ℕ) (has_length : Bool) (packet : List ℕ) where
   pub set_no : header_tests header_len number has_length (length packet) ≡ false → length_set header_len number has_length packet ≡ no 14
-  unfolding length_set if◌then◌else◌
+  unfolding length_set
   set_no h = rw h
 
   module _ (h : header_tests header_len number has_length (length packet) ≡ true) where
     pub set_none : has_length ≡ false → length_set header_len number has_length packet ≡ ok packet
-    unfolding length_set if◌then◌else◌
+    unfolding length_set
     set_none e = rw (h, e)
 
     pub set_on : (k : ℕ) → k ≡ number_bytes number → has_length ≡ true → length_set header_len number has_length packet ≡ length_into header_len k packet
-    unfolding length_set if◌then◌else◌
+    unfolding length_set
     set_on k q e = rw (h, e, q)
 
 module _ (header_len k : ℕ) (packet : List ℕ) (n : ℕ) (e : n ≡ length packet - header_len + k) where
   pub into_long : 2 ^ 14 ≤ n → length_into header_len k packet ≡ no 14
-  unfolding length_into if◌then◌else◌
+  unfolding length_into
   into_long h = rw (← e, le-ltb _ _ h)
 
   pub into_ok : n < 2 ^ 14 → length_into header_len k packet ≡ ok (splice packet (header_len - k - 2) (length_field n))
-  unfolding length_into if◌then◌else◌
+  unfolding length_into
   into_ok h = rw (← e, lt-ltb _ _ h)

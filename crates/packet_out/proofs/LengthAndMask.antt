@@ -1,5 +1,6 @@
 -- A header with a number on its way out: the Length step sets its Length and nothing else, the mask step leaves the bits that steer;
 -- whatever the bits of its type.
+use Rattle.std.specs.Prelude.{if◌then◌else◌}
 use Prim.Native.Nat.{ℕ, ◌+◌, ◌-◌, ◌*◌, ◌/◌, ◌%◌, ◌^◌, ◌≤◌, ◌<◌}
 use mathlib.Core.Path.{◌≡◌, refl, sym, ap, ◌∙◌}
 use mathlib.Core.List.{List, ◌∷◌, ◌++◌, append_assoc}
@@ -11,7 +12,7 @@ use lib.Dec.{eqb}
 use lib.ListN.{length, take, drop, length-append}
 use lib.Seq.{take_at, drop_at, drop-append-add}
 use borrow.Author.Tests.{le-leb, eq-eqb}
-use Rattle.coding.specs.Words.{if◌then◌else◌, ok}
+use Rattle.coding.specs.Words.{ok}
 use Rattle.coding.specs.Bytes.{byte_at, splice}
 use Rattle.coding.proofs.Laws.{length_bytes_be}
 use Rattle.shared.specs.FirstByte.{long_header_form, fixed_bit, spin_bit, key_phase_bit, long_reserved_bits, short_reserved_bits}
@@ -54,11 +55,11 @@ module _ (bits : ℕ → PacketType → ℕ) (p : Plain) (dst src : ConnectionId
 
   with_length : (field : List ℕ) → (shape_by bits p).has_length ≡ true
       → written_header bits field p dst src token ≡ before ++ (field ++ number_field (plain_number p))
-  unfolding before written_header shape_bytes length_bytes if◌then◌else◌
+  unfolding before written_header shape_bytes length_bytes
   with_length field h = rw h (ap (λ (l : List ℕ). (shape_by bits p).first ∷ l) (simp append_assoc))
 
   pub without : (x y : List ℕ) → (shape_by bits p).has_length ≡ false → written_header bits x p dst src token ≡ written_header bits y p dst src token
-  unfolding written_header shape_bytes length_bytes if◌then◌else◌
+  unfolding written_header shape_bytes length_bytes
   without x y h = rw h
 
   pub numbered : (field past : List ℕ) → up_to bits p dst src token field past ≡ up_to_number field ++ past
@@ -149,12 +150,12 @@ pub record First (bits : ℕ → PacketType → ℕ) (p : Plain) (c : CutNumber)
   pub says : opened_by (shape_by bits p).has_length (shape_by bits p).first c ≡ opened_as p
 
 bit_is : (b : Bool) (x : ℕ) → bit_if b x ≡ bit_if b 1 * x
-unfolding bit_if if◌then◌else◌
+unfolding bit_if
 bit_is true x = omega arith
 bit_is false x = omega arith
 
 bit_one : (b : Bool) → eqb (bit_if b 1) 1 ≡ b
-unfolding bit_if if◌then◌else◌
+unfolding bit_if
 bit_one true = refl
 bit_one false = refl
 
@@ -172,14 +173,14 @@ module _ (bits : ℕ → PacketType → ℕ) (c : CutNumber) (k : is_cut c ≡ t
   long_form two v t = omega (arith, cut_short c k, two v t)
 
   long_says : (v : ℕ) (t : PacketType) → opened_by true (long_first (bits v t) + length_bits c) c ≡ protect.long c.0 c.1 true
-  unfolding opened_by long_first if◌then◌else◌
+  unfolding opened_by long_first
   long_says v t =
       let first : ℕ = long_header_form + fixed_bit + bits v t * 16 + length_bits c in
       let z : first / 4 % 4 ≡ 0 = omega (arith, cut_short c k) in
       rw (eq-eqb (bit_and first long_reserved_bits) 0 (two_clear first 2 z))
 
   short_first_law : (spin phase : Bool) → First bits (short spin phase c) c
-  unfolding shape_by short_first opened_by opened_as if◌then◌else◌
+  unfolding shape_by short_first opened_by opened_as
   short_first_law spin phase =
       let s : bit_if spin spin_bit ≡ bit_if spin 1 * spin_bit = bit_is spin spin_bit in
       let f : bit_if phase key_phase_bit ≡ bit_if phase 1 * key_phase_bit = bit_is phase key_phase_bit in

@@ -1,5 +1,6 @@
 -- The whole way: encode, the Length step, encryption of the payload, the mask step, split and finish; over any pair of tables of types
 -- and their inverses, by the version.
+use Rattle.std.specs.Prelude.{if◌then◌else◌}
 use Prim.Native.Nat.{ℕ, ◌+◌, ◌-◌, ◌/◌, ◌^◌, ◌≤◌, ◌<◌}
 use mathlib.Core.Path.{◌≡◌, refl, sym, ap, ◌∙◌}
 use mathlib.Core.List.{List, [], ◌∷◌, ◌++◌, append-nil}
@@ -11,7 +12,7 @@ use lib.Bits.{bit_xor}
 use lib.ListN.{length, drop, length-append}
 use lib.Seq.{drop_at}
 use borrow.Author.Tests.{le-ltb, le-leb}
-use Rattle.coding.specs.Words.{if◌then◌else◌, and_then, ok}
+use Rattle.coding.specs.Words.{and_then, ok}
 use Rattle.coding.specs.Bytes.{byte_at}
 use Rattle.coding.specs.Places.{part_of}
 use Rattle.coding.specs.declared.Place.{Place}
@@ -47,7 +48,7 @@ unfolding outside
 inside s local versions a b c = rw (le-ltb 65527 (length s) a, le-ltb 20 local b, le-ltb 16 (length versions) c)
 
 length_read : (bits : ℕ → PacketType → ℕ) (p : Plain) (token : Place) (n : ℕ) → length_in (ok (kind_read p token n)) ≡ (if (shape_by bits p).has_length then some n else none)
-unfolding length_in kind_read shape_by if◌then◌else◌
+unfolding length_in kind_read shape_by
 length_read bits (initial c v) token n = refl
 length_read bits (zero_rtt c v) token n = refl
 length_read bits (handshake c v) token n = refl
@@ -59,7 +60,7 @@ length_read bits (negotiate random) token n = refl
 pub split_whole : (types : ℕ → ℕ → PacketType) (bits : ℕ → PacketType → ℕ) (p : Plain) (dst src : ConnectionId) (token s : List ℕ) (n m local : ℕ) (versions : List ℕ) (grease : Bool)
     → header_by types s local versions grease ≡ read_as bits p dst src token n m → ((shape_by bits p).has_length ≡ true → end_read bits p dst src token m + n ≡ length s)
     → split_with types s local versions grease ≡ cut_at (read_as bits p dst src token n m) s (length s)
-unfolding split_with split_on split_by read_as headed and_then if◌then◌else◌
+unfolding split_with split_on split_by read_as headed and_then
 split_whole types bits p dst src token s n m local versions grease e f =
     rw (e, length_read bits p (token_place bits p dst src token) n) (go (shape_by bits p).has_length refl)
   where
@@ -75,7 +76,7 @@ split_whole types bits p dst src token s n m local versions grease e f =
 -- ---- the whole way
 
 length_if : (b : Bool) (n : ℕ) → length (length_bytes b (length_field n)) ≡ (if b then 2 else 0)
-unfolding length_bytes if◌then◌else◌
+unfolding length_bytes
 length_if true n = length_field_law n
 length_if false n = refl
 
@@ -254,7 +255,7 @@ BareWay types bits =
     → length bs + length rest ≤ 65527 → Stays types bits p dst src token bs rest mask local versions grease
 
 pub bare_way : (types : ℕ → ℕ → PacketType) (bits : ℕ → PacketType → ℕ) → Tables types bits → BareWay types bits
-unfolding header_tests finish_at in_size if◌then◌else◌ written_header
+unfolding header_tests finish_at in_size written_header
 bare_way types bits pair p is dst src token bs rest mask local versions grease e y d a b big =
     let w = was_written bits p dst src token bs e in
     let n = no_length bits p is in

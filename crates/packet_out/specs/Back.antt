@@ -1,6 +1,5 @@
 -- What is written is read back: what reading says of a written header, and where it can be read.
-use Rattle.std.specs.Prelude.{ℕ, ◌+◌, ◌/◌, ◌%◌, ◌^◌, ◌<◌, ◌≡◌, List, [], Bool, true, ◌⊎◌, length}
-use Rattle.coding.specs.Words.{if◌then◌else◌}
+use Rattle.std.specs.Prelude.{ℕ, ◌+◌, ◌/◌, ◌%◌, ◌^◌, ◌<◌, ◌≡◌, List, [], Bool, true, ◌⊎◌, length, if◌then◌else◌}
 use Rattle.coding.specs.Varint.{var_size}
 use Rattle.coding.specs.declared.Place.{Place}
 use Rattle.shared.specs.FirstByte.{long_header_form, fixed_bit}

@@ -1,6 +1,6 @@
 -- A header before a payload of n bytes, with its Length (RFC 9000, 17.2).
-use Rattle.std.specs.Prelude.{ℕ, ◌+◌, ◌^◌, List, Bool, true, ◌&&◌, length, ltb, leb}
-use Rattle.coding.specs.Words.{if◌then◌else◌, Answer, no, ok, max_datagram}
+use Rattle.std.specs.Prelude.{ℕ, ◌+◌, ◌^◌, List, Bool, true, ◌&&◌, length, ltb, leb, if◌then◌else◌}
+use Rattle.coding.specs.Words.{Answer, no, ok, max_datagram}
 use Rattle.shared.specs.declared.cid.ConnectionId.{ConnectionId}
 use Rattle.packet.specs.TypeBits.{bits_of}
 use Rattle.protect.specs.Tests.{number_bytes}

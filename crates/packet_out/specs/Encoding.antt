@@ -1,7 +1,7 @@
 -- A packet's header as it is written: RFC 9000, 17.2 and 17.3; Version Negotiation: 17.2.1.
-use Rattle.std.specs.Prelude.{ℕ, ◌+◌, ◌*◌, ◌%◌, ◌≡◌, List, [], ◌∷◌, ◌++◌, Bool, true, false, ◌&&◌, length, leb}
+use Rattle.std.specs.Prelude.{ℕ, ◌+◌, ◌*◌, ◌%◌, ◌≡◌, List, [], ◌∷◌, ◌++◌, Bool, true, false, ◌&&◌, length, leb, if◌then◌else◌}
 use Rattle.std.proofs.Math.Option.{Option, none, some}
-use Rattle.coding.specs.Words.{if◌then◌else◌, Answer, no, ok, max_datagram}
+use Rattle.coding.specs.Words.{Answer, no, ok, max_datagram}
 use Rattle.coding.specs.Bytes.{bytes_be}
 use Rattle.coding.specs.Varint.{var_bytes}
 use Rattle.coding.specs.Writing.{in_room, length_of, into_buffer}

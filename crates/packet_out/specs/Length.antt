@@ -1,7 +1,7 @@
 -- The Length step: RFC 9000, 17.2: the length of the remainder of the packet, that is, the number and the payload, in bytes.
-use Rattle.std.specs.Prelude.{ℕ, ◌+◌, ◌-◌, ◌^◌, List, Bool, length, ltb}
+use Rattle.std.specs.Prelude.{ℕ, ◌+◌, ◌-◌, ◌^◌, List, Bool, length, ltb, if◌then◌else◌}
 use Rattle.std.proofs.Math.Option.{Option}
-use Rattle.coding.specs.Words.{if◌then◌else◌, Answer, no, ok}
+use Rattle.coding.specs.Words.{Answer, no, ok}
 use Rattle.coding.specs.Bytes.{bytes_be, splice}
 use Rattle.protect.specs.Tests.{number_bytes, header_tests}
 use Rattle.protect.specs.Steps.{Changed, only_done}

@@ -1,4 +1,5 @@
 -- What the sender masks the receiver unmasks, and no other byte changes.
+use Rattle.std.specs.Prelude.{if◌then◌else◌}
 use Prim.Native.Nat.{ℕ, zero, suc, ◌+◌, ◌-◌, ◌/◌, ◌<◌, ◌≤◌}
 use mathlib.Core.Path.{◌≡◌, refl, ap, ap₂, ◌∙◌}
 use mathlib.Core.List.{List, [], ◌∷◌}
@@ -9,7 +10,7 @@ use native.Mathlib.Omega.{arith}
 use lib.Bits.{bit_xor, xor_shr, xor_zero_r}
 use lib.ListN.{length, drop, get_or, length-take}
 use borrow.Author.Tests.{le-leb}
-use Rattle.coding.specs.Words.{if◌then◌else◌, ok, max_datagram}
+use Rattle.coding.specs.Words.{ok, max_datagram}
 use Rattle.coding.specs.Bytes.{byte_at}
 use Rattle.shared.specs.FirstByte.{long_header_form}
 use Rattle.number.specs.Cutting.{tag_length, first_cut}
@@ -111,7 +112,7 @@ pub record ThereAndBack (header_len k : ℕ) (has_length : Bool) (packet mask : 
 -- where the header passes its tests, the packet reaches its number offset + 20, and its first byte has its form
 pub there_and_back : (header_len k : ℕ) (has_length : Bool) (packet mask : List ℕ) → header_tests header_len (some k) has_length (length packet) ≡ true
     → header_len - k + 20 ≤ length packet → byte_at packet 0 / long_header_form ≡ form_bit has_length → ThereAndBack header_len k has_length packet mask
-unfolding read_off finished if◌then◌else◌
+unfolding read_off finished
 there_and_back header_len k has_length packet mask t h f =
     let at : ℕ = header_len - k in
     let one : 1 ≤ at = omega (arith, tests_room header_len k (length packet) has_length (some k) refl t) in

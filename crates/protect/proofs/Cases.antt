@@ -1,4 +1,5 @@
 -- The cases of the sample's place, finish and the mask step, each from the tests that lead to it.
+use Rattle.std.specs.Prelude.{if◌then◌else◌}
 use Prim.Native.Nat.{ℕ, zero, suc, ◌+◌, ◌-◌, ◌/◌, ◌%◌, ◌<◌, ◌≤◌}
 use mathlib.Core.Path.{◌≡◌, refl, sym, ap, ◌∙◌}
 use mathlib.Core.List.{List, [], ◌∷◌}
@@ -10,7 +11,7 @@ use lib.Bits.{bit_and, bit_xor}
 use lib.Dec.{leb, eqb}
 use lib.ListN.{length, drop, set, length-drop, length-set}
 use borrow.Author.Tests.{lt-ltb, le-ltb, eq-eqb, ne_eqb, leb-true}
-use Rattle.coding.specs.Words.{if◌then◌else◌, Answer, no, ok, max_datagram}
+use Rattle.coding.specs.Words.{Answer, no, ok, max_datagram}
 use Rattle.coding.specs.Bytes.{byte_at}
 use Rattle.shared.specs.FirstByte.{long_header_form, long_reserved_bits, short_reserved_bits, key_phase_bit}
 use Rattle.shared.specs.declared.kinds.CutNumber.{CutNumber}
@@ -65,11 +66,11 @@ first_masked long mask (suc at) n (b ∷ l) h k = refl
 -- what is said of a long and of a short packet
 module _ (first : ℕ) (number : CutNumber) where
   pub said_long : finished_of (fin.Long number (eqb (bit_and first long_reserved_bits) 0)) ≡ ok (opened_by true first number)
-  unfolding finished_of opened_by if◌then◌else◌
+  unfolding finished_of opened_by
   said_long = refl
 
   pub said_short : finished_of (fin.Short number (eqb (bit_and first short_reserved_bits) 0) (eqb (first / key_phase_bit % 2) 1)) ≡ ok (opened_by false first number)
-  unfolding finished_of opened_by if◌then◌else◌
+  unfolding finished_of opened_by
   said_short = refl
 
 -- the mask takes none of the number's bytes away
@@ -81,17 +82,17 @@ still_left packet ms at b n {new} k h e =
 
 module _ (long : Bool) (packet : List ℕ) (at : ℕ) (mask : List ℕ) where
   pub open_zero : at ≡ 0 → open_at long packet at mask ≡ no 14
-  unfolding open_at if◌then◌else◌
+  unfolding open_at
   open_zero h = rw (eq-eqb at 0 h)
 
   module _ (h : at ≡ 0 → ⊥) where
     pub open_short : has_sample (length packet) at ≡ false → open_at long packet at mask ≡ no 8
-    unfolding open_at if◌then◌else◌
+    unfolding open_at
     open_short k = rw (ne_eqb at 0 h, k)
 
     module _ (k : has_sample (length packet) at ≡ true) where
       pub open_form : {bit : ℕ} → bit ≡ form_bit long → (byte_at packet 0 / long_header_form ≡ bit → ⊥) → open_at long packet at mask ≡ no 14
-      unfolding open_at if◌then◌else◌
+      unfolding open_at
       open_form e f = rw (ne_eqb at 0 h, k, ne_eqb (byte_at packet 0 / long_header_form) (form_bit long) (λ q. f (q ∙ sym e)))
 
       module _ (f : byte_at packet 0 / long_header_form ≡ form_bit long) where
@@ -99,7 +100,7 @@ module _ (long : Bool) (packet : List ℕ) (at : ℕ) (mask : List ℕ) where
         reach = omega (arith, leb-true (at + 4 + 16) (length packet) k)
 
         pub open_ok : open_at long packet at mask ≡ ok (removed long mask at packet)
-        unfolding open_at if◌then◌else◌
+        unfolding open_at
         open_ok = rw (ne_eqb at 0 h, k, eq-eqb (byte_at packet 0 / long_header_form) (form_bit long) f)
 
         module _ (m n : ℕ) (new : List ℕ) (em : m ≡ first_mask long (byte_at mask 0)) (en : n ≡ tag_length (bit_xor (byte_at packet 0) m))
@@ -157,64 +158,64 @@ tests_size header_len len has_length number h =
 
 module _ (numbered : Bool) (packet : List ℕ) (at : ℕ) where
   pub sample_big : max_datagram < length packet → no 14 ≡ sample_at numbered packet at
-  unfolding sample_at in_size if◌then◌else◌
+  unfolding sample_at in_size
   sample_big h = rw (lt-ltb max_datagram (length packet) h)
 
   module _ (h : length packet ≤ max_datagram) where
     pub sample_none : numbered ≡ false → ok none ≡ sample_at numbered packet at
-    unfolding sample_at in_size if◌then◌else◌
+    unfolding sample_at in_size
     sample_none e = rw (le-ltb max_datagram (length packet) h, e)
 
     module _ (e : numbered ≡ true) where
       pub sample_zero : at ≡ 0 → no 14 ≡ sample_at numbered packet at
-      unfolding sample_at in_size if◌then◌else◌
+      unfolding sample_at in_size
       sample_zero k = rw (le-ltb max_datagram (length packet) h, e, eq-eqb at 0 k)
 
       module _ (k : at ≡ 0 → ⊥) where
         pub sample_short : has_sample (length packet) at ≡ false → no 8 ≡ sample_at numbered packet at
-        unfolding sample_at in_size if◌then◌else◌
+        unfolding sample_at in_size
         sample_short j = rw (le-ltb max_datagram (length packet) h, e, ne_eqb at 0 k, j)
 
         pub sample_some : has_sample (length packet) at ≡ true → ok (some (record { start = at + 4; len = 16 })) ≡ sample_at numbered packet at
-        unfolding sample_at in_size if◌then◌else◌
+        unfolding sample_at in_size
         sample_some j = rw (le-ltb max_datagram (length packet) h, e, ne_eqb at 0 k, j)
 
 -- ---- finish of any kind
 
 module _ (numbered long : Bool) (packet : List ℕ) (at : ℕ) (mask : List ℕ) where
   pub finish_big : max_datagram < length packet → finish_at numbered long packet at mask ≡ no 14
-  unfolding finish_at in_size if◌then◌else◌
+  unfolding finish_at in_size
   finish_big h = rw (lt-ltb max_datagram (length packet) h)
 
   module _ (h : length packet ≤ max_datagram) where
     pub finish_none : numbered ≡ false → Finishes numbered long packet at mask (ok unnumbered) packet
-    unfolding finish_at finished in_size if◌then◌else◌
+    unfolding finish_at finished in_size
     finish_none e = changed_ok _ packet (rw (le-ltb max_datagram (length packet) h, e)) (rw e)
 
     pub finish_on : {b : Bool} {said : Answer Opened} {new : List ℕ} → numbered ≡ true → b ≡ long → Opens b packet at mask said new
         → Finishes numbered long packet at mask said new
-    unfolding finish_at finished in_size if◌then◌else◌
+    unfolding finish_at finished in_size
     finish_on e f c = rw (le-ltb max_datagram (length packet) h, e, ← f) c
 
 pub finish_ok : (long : Bool) (packet : List ℕ) (at : ℕ) (mask : List ℕ) → length packet ≤ max_datagram → (at ≡ 0 → ⊥) → has_sample (length packet) at ≡ true
     → byte_at packet 0 / long_header_form ≡ form_bit long → finish_at true long packet at mask ≡ ok (removed long mask at packet)
-unfolding finish_at in_size if◌then◌else◌
+unfolding finish_at in_size
 finish_ok long packet at mask h z k f = rw (le-ltb max_datagram (length packet) h) (open_ok long packet at mask z k f)
 
 -- ---- the mask step
 
 module _ (long : Bool) (packet : List ℕ) (at : ℕ) (mask : List ℕ) where
   pub protect_short : has_sample (length packet) at ≡ false → protect_at long packet at mask ≡ no 8
-  unfolding protect_at if◌then◌else◌
+  unfolding protect_at
   protect_short k = rw k
 
   module _ (k : has_sample (length packet) at ≡ true) {bit : ℕ} (e : bit ≡ form_bit long) where
     pub protect_form : (byte_at packet 0 / long_header_form ≡ bit → ⊥) → protect_at long packet at mask ≡ no 14
-    unfolding protect_at if◌then◌else◌
+    unfolding protect_at
     protect_form f = rw (k, ne_eqb (byte_at packet 0 / long_header_form) (form_bit long) (λ q. f (q ∙ sym e)))
 
     pub protect_ok : byte_at packet 0 / long_header_form ≡ bit → protect_at long packet at mask ≡ ok (applied long mask at packet)
-    unfolding protect_at if◌then◌else◌
+    unfolding protect_at
     protect_ok f = rw (k, eq-eqb (byte_at packet 0 / long_header_form) (form_bit long) (f ∙ e))
 
     pub protect_done : {n m : ℕ} {new : List ℕ} → byte_at packet 0 / long_header_form ≡ bit → m ≡ first_mask long (byte_at mask 0) → n ≡ tag_length (byte_at packet 0)
@@ -226,21 +227,21 @@ module _ (long : Bool) (packet : List ℕ) (at : ℕ) (mask : List ℕ) where
 
 module _ (header_len : ℕ) (number : Option ℕ) (has_length : Bool) (packet mask : List ℕ) where
   pub mask_no : header_tests header_len number has_length (length packet) ≡ false → mask_at header_len number has_length packet mask ≡ no 14
-  unfolding mask_at if◌then◌else◌
+  unfolding mask_at
   mask_no h = rw h
 
   module _ (h : header_tests header_len number has_length (length packet) ≡ true) where
     pub mask_none : number ≡ none → mask_at header_len number has_length packet mask ≡ ok packet
-    unfolding mask_at mask_number if◌then◌else◌
+    unfolding mask_at mask_number
     mask_none e = rw (h, e)
 
     pub mask_on : {said : Answer (Unit {0})} {new : List ℕ} (k : ℕ) → number ≡ some k → Protects has_length packet (header_len - k) mask said new
         → Masks header_len number has_length packet mask said new
-    unfolding mask_at mask_number if◌then◌else◌
+    unfolding mask_at mask_number
     mask_on k e c = rw (h, e) c
 
 pub mask_ok : (header_len k : ℕ) (has_length : Bool) (packet mask : List ℕ) → header_tests header_len (some k) has_length (length packet) ≡ true
     → has_sample (length packet) (header_len - k) ≡ true → byte_at packet 0 / long_header_form ≡ form_bit has_length
     → mask_at header_len (some k) has_length packet mask ≡ ok (applied has_length mask (header_len - k) packet)
-unfolding mask_at mask_number if◌then◌else◌
+unfolding mask_at mask_number
 mask_ok header_len k has_length packet mask t s f = rw t (protect_ok has_length packet (header_len - k) mask s refl f)

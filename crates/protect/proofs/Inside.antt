@@ -1,5 +1,5 @@
 -- A packet number is never cut, and 9 is never answered.
-use Prim.Native.Nat.{ℕ}
+use Rattle.std.specs.Prelude.{ℕ, ◌/◌, eqb, ltb, if◌then◌else◌}
 use mathlib.Core.Path.{◌≡◌, sym, ◌∙◌}
 use mathlib.Core.List.{List}
 use mathlib.Core.Bool.{Bool}
@@ -7,9 +7,12 @@ use mathlib.Core.Option.{Option, none, some}
 use native.Mathlib.Omega.{arith}
 use lib.ListN.{length, length-drop}
 use borrow.Author.Tests.{leb-true}
-use Rattle.coding.specs.Words.{Answer, no, ok}
+use Rattle.coding.specs.Words.{Answer, no, ok, max_datagram}
+use Rattle.coding.specs.Bytes.{byte_at}
 use Rattle.coding.proofs.Rules.{if_all}
-use Rattle.protect.specs.Tests.{in_size}
+use Rattle.shared.specs.FirstByte.{long_header_form}
+use Rattle.protect.specs.Tests.{in_size, has_sample, form_bit, header_tests}
+use Rattle.protect.specs.Protection.{applied, removed}
 use Rattle.protect.specs.Steps.{read_off, open_at, finish_at, protect_at, mask_number, mask_at}
 use Rattle.protect.specs.Inside.{FourLeft, FinishNotNine, MaskNotNine}
 
@@ -42,15 +45,25 @@ module _ (packet mask : List ℕ) where
   open_other : (is_long : Bool) (at : ℕ) → Other (open_at is_long packet at mask)
   unfolding open_at
   open_other is_long at =
-      if_all Other _ _ _ (λ _. fourteen) (λ _. if_all Other _ _ _ (λ _. if_all Other _ _ _ (λ _. tt) (λ _. fourteen)) (λ _. eight))
+      let form : Bool = eqb (byte_at packet 0 / long_header_form) (form_bit is_long) in
+      let opened : Answer (List ℕ) = ok (removed is_long mask at packet) in
+      let sampled : Answer (List ℕ) = if has_sample (length packet) at then (if form then opened else no 14) else no 8 in
+      if_all Other (eqb at 0) (no 14) sampled (λ _. fourteen) (λ _.
+      if_all Other (has_sample (length packet) at) (if form then opened else no 14) (no 8) (λ _. if_all Other form opened (no 14) (λ _. tt) (λ _. fourteen)) (λ _. eight))
 
   finish_other : (numbered is_long : Bool) (at : ℕ) → Other (finish_at numbered is_long packet at mask)
   unfolding finish_at in_size
-  finish_other numbered is_long at = if_all Other _ _ _ (λ _. fourteen) (λ _. if_all Other _ _ _ (λ _. open_other is_long at) (λ _. tt))
+  finish_other numbered is_long at =
+      let opened : Answer (List ℕ) = if numbered then open_at is_long packet at mask else ok packet in
+      if_all Other (ltb max_datagram (length packet)) (no 14) opened (λ _. fourteen) (λ _.
+      if_all Other numbered (open_at is_long packet at mask) (ok packet) (λ _. open_other is_long at) (λ _. tt))
 
   protect_other : (is_long : Bool) (at : ℕ) → Other (protect_at is_long packet at mask)
   unfolding protect_at
-  protect_other is_long at = if_all Other _ _ _ (λ _. if_all Other _ _ _ (λ _. tt) (λ _. fourteen)) (λ _. eight)
+  protect_other is_long at =
+      let form : Bool = eqb (byte_at packet 0 / long_header_form) (form_bit is_long) in
+      let made : Answer (List ℕ) = ok (applied is_long mask at packet) in
+      if_all Other (has_sample (length packet) at) (if form then made else no 14) (no 8) (λ _. if_all Other form made (no 14) (λ _. tt) (λ _. fourteen)) (λ _. eight)
 
   number_other : (number : Option ℕ) (has_length : Bool) (header_len : ℕ) → Other (mask_number number has_length header_len packet mask)
   unfolding mask_number
@@ -59,7 +72,8 @@ module _ (packet mask : List ℕ) where
 
   mask_other : (header_len : ℕ) (number : Option ℕ) (has_length : Bool) → Other (mask_at header_len number has_length packet mask)
   unfolding mask_at
-  mask_other header_len number has_length = if_all Other _ _ _ (λ _. number_other number has_length header_len) (λ _. fourteen)
+  mask_other header_len number has_length =
+      if_all Other (header_tests header_len number has_length (length packet)) (mask_number number has_length header_len packet mask) (no 14) (λ _. number_other number has_length header_len) (λ _. fourteen)
 
 pub finish_not_nine : FinishNotNine
 finish_not_nine numbered is_long packet at mask said new c = said_other _ _ (finish_other packet mask numbered is_long at) c.says

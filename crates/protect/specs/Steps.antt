@@ -1,9 +1,9 @@
 -- The sample's place, finish and the mask step: document 01, "From datagram to packets".
-use Rattle.std.specs.Prelude.{ℕ, ◌+◌, ◌-◌, ◌/◌, ◌%◌, ◌≡◌, List, Bool, length, drop, eqb}
+use Rattle.std.specs.Prelude.{ℕ, ◌+◌, ◌-◌, ◌/◌, ◌%◌, ◌≡◌, List, Bool, length, drop, eqb, if◌then◌else◌}
 use Rattle.std.proofs.Math.Option.{Option, none, some}
 use Rattle.std.specs.Int.Bits.{bit_and}
 use Rattle.std.specs.Borrow.{Bor}
-use Rattle.coding.specs.Words.{if◌then◌else◌, Answer, no, ok}
+use Rattle.coding.specs.Words.{Answer, no, ok}
 use Rattle.coding.specs.Bytes.{byte_at}
 use Rattle.coding.specs.Places.{Part, start_of, part_of}
 use Rattle.coding.specs.declared.Place.{Place}

@@ -1,7 +1,7 @@
 -- What is tested before a packet is masked or unmasked: document 01, "Numbers we hold to" and "From datagram to packets".
-use Rattle.std.specs.Prelude.{ℕ, ◌+◌, List, Bool, true, false, ◌&&◌, length, ltb, leb}
+use Rattle.std.specs.Prelude.{ℕ, ◌+◌, List, Bool, true, false, ◌&&◌, length, ltb, leb, if◌then◌else◌}
 use Rattle.std.proofs.Math.Option.{Option, none, some}
-use Rattle.coding.specs.Words.{if◌then◌else◌, Answer, no, max_datagram}
+use Rattle.coding.specs.Words.{Answer, no, max_datagram}
 
 -- a packet has at most 65,527 bytes: past that it is 14
 unfoldable pub in_size : {A : Type 0} → List ℕ → Answer A → Answer A

@@ -1,4 +1,5 @@
 -- What is read in a part of a list is read there in the whole list.
+use Rattle.std.specs.Prelude.{if◌then◌else◌}
 use mathlib.Core.Path.{◌≡◌, refl, ◌∙◌}
 use mathlib.Core.List.{List, ◌++◌}
 use mathlib.Core.Bool.{Bool, true, false}
@@ -7,7 +8,7 @@ use native.Mathlib.Omega.{arith}
 use lib.ListN.{length}
 use lib.Seq.{drop_at}
 use lib.Dec.{ltb}
-use Rattle.coding.specs.Words.{if◌then◌else◌, Got, cut, got, and_then, Answer, no, ok}
+use Rattle.coding.specs.Words.{Got, cut, got, and_then, Answer, no, ok}
 use Rattle.coding.specs.Varint.{var_at}
 use Rattle.coding.proofs.Shift.{var_behind, var_before}
 use Rattle.ack.specs.Scan.{rounds, scan_at}
@@ -26,7 +27,6 @@ module _ (p d q : List ℕ) where
     then_local at f g h cut e x = let z : ◌≡◌ {A = ℕ} 0 1 = cc in absurd (omega arith)
 
     if_local : (a b : ℕ) (x y : Answer ℕ) → (x ≡ ok m → y ≡ ok (length p + m)) → (if ltb a b then no 12 else x) ≡ ok m → (if ltb a b then no 12 else y) ≡ ok (length p + m)
-    unfolding if◌then◌else◌
     if_local a b x y h = go (ltb a b)
       where
         go : (t : Bool) → (if t then no 12 else x) ≡ ok m → (if t then no 12 else y) ≡ ok (length p + m)

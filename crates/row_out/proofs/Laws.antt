@@ -1,4 +1,5 @@
 -- Laws of the limits, and of integers one after the other.
+use Rattle.std.specs.Prelude.{if◌then◌else◌}
 use mathlib.Core.Path.{◌≡◌, refl, sym, ap, ◌∙◌}
 use mathlib.Core.List.{List, [], ◌∷◌, ◌++◌, append_assoc, append-nil}
 use mathlib.Core.Bool.{Bool, true, false}
@@ -8,7 +9,7 @@ use lib.ListN.{length, take, drop, get_or, length-append, take-append-drop}
 use lib.Seq.{take-suc}
 use lib.Dec.{ltb, leb}
 use borrow.Author.Tests.{ltb-true, leb-true, leb-false, lt-ltb, le-leb, lt-leb}
-use Rattle.coding.specs.Words.{if◌then◌else◌, Answer, no, ok}
+use Rattle.coding.specs.Words.{Answer, no, ok}
 use Rattle.coding.specs.Varint.{var_size, var_bytes}
 use Rattle.coding.specs.Writing.{length_of}
 use Rattle.coding.specs.Refusals.{number_of}
@@ -22,7 +23,7 @@ use Rattle.row_out.specs.Limits.{below62, in_frame, limited, vars_bytes, vars_ou
 -- ---- each integer is at most 2^62 - 1
 
 pub below_cons : (x : ℕ) (xs : List ℕ) → below62 (x ∷ xs) ≡ true → (x < 2 ^ 62) × (below62 xs ≡ true)
-unfolding below62 if◌then◌else◌
+unfolding below62
 below_cons x xs = go (ltb x (2 ^ 62)) refl
   where
     go : (t : Bool) → ltb x (2 ^ 62) ≡ t → (if t then below62 xs else false) ≡ true → (x < 2 ^ 62) × (below62 xs ≡ true)
@@ -30,7 +31,7 @@ below_cons x xs = go (ltb x (2 ^ 62)) refl
     go false e h = let z : ◌≡◌ {A = ℕ} 0 1 = cc in absurd (omega arith)
 
 pub cons_below : (x : ℕ) (xs : List ℕ) → x < 2 ^ 62 → below62 xs ≡ true → below62 (x ∷ xs) ≡ true
-unfolding below62 if◌then◌else◌
+unfolding below62
 cons_below x xs h k = rw (lt-ltb _ _ h) k
 
 pub below_at : (xs : List ℕ) (i : ℕ) → below62 xs ≡ true → i < length xs → get_or xs i 0 < 2 ^ 62
@@ -90,15 +91,15 @@ vars_bound (x ∷ xs) b =
 
 module _ (xs bs : List ℕ) where
   pub limited_ok : below62 xs ≡ true → length bs ≤ 65527 → limited xs bs ≡ ok bs
-  unfolding limited in_frame if◌then◌else◌
+  unfolding limited in_frame
   limited_ok b h = rw (b, le-leb _ _ h)
 
   pub limited_past : below62 xs ≡ false → limited xs bs ≡ no 14
-  unfolding limited if◌then◌else◌
+  unfolding limited
   limited_past b = rw b
 
   pub limited_long : 65527 < length bs → limited xs bs ≡ no 14
-  unfolding limited in_frame if◌then◌else◌
+  unfolding limited in_frame
   limited_long h = rw (lt-leb _ _ h) (go (below62 xs))
     where
       go : (t : Bool) → ◌≡◌ {A = Answer (List ℕ)} (if t then no 14 else no 14) (no 14)
@@ -112,7 +113,7 @@ pub record Seen (xs bs cs : List ℕ) : Type 0 where
   pub same : bs ≡ cs
 
 pub limited_seen : (xs bs cs : List ℕ) → limited xs bs ≡ ok cs → Seen xs bs cs
-unfolding limited in_frame if◌then◌else◌
+unfolding limited in_frame
 limited_seen xs bs cs = go (below62 xs) (leb (length bs) 65527) refl refl
   where
     go : (t u : Bool) → below62 xs ≡ t → leb (length bs) 65527 ≡ u → (if t then (if u then ok bs else no 14) else no 14) ≡ ok cs → Seen xs bs cs
@@ -165,7 +166,7 @@ module _ (r : Sized) (xs bs : List ℕ) (e : sized_of r ≡ length_of (vars_out 
   all = vars_bytes xs ++ bs
 
   pub size_held : (n : ℕ) → r ≡ sized.Bytes n → Held xs bs n
-  unfolding sized_of length_of vars_out limited in_frame if◌then◌else◌
+  unfolding sized_of length_of vars_out limited in_frame
   size_held n q = go (below62 xs) (leb (length all) 65527) refl refl (rw q at e)
     where
       go : (t u : Bool) → below62 xs ≡ t → leb (length all) 65527 ≡ u
@@ -179,7 +180,7 @@ module _ (r : Sized) (xs bs : List ℕ) (e : sized_of r ≡ length_of (vars_out 
 
   -- a refusal, and so with more bytes after the integers
   pub size_not : (why : Refusal) (cs : List ℕ) → r ≡ sized.Refused why → length bs ≤ length cs → vars_out xs cs ≡ no 14
-  unfolding sized_of length_of vars_out limited in_frame if◌then◌else◌
+  unfolding sized_of length_of vars_out limited in_frame
   size_not why cs q l = go (below62 xs) (leb (length all) 65527) refl refl (rw q at e)
     where
       go : (t u : Bool) → below62 xs ≡ t → leb (length all) 65527 ≡ u

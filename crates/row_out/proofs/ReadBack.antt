@@ -1,4 +1,5 @@
 -- What is written by a row is read back by it: proved once, over the list of fields, for every table.
+use Rattle.std.specs.Prelude.{if◌then◌else◌}
 use mathlib.Core.Path.{◌≡◌, refl, sym, ap, ◌∙◌}
 use mathlib.Core.List.{List, [], ◌∷◌, ◌++◌, append_assoc, append-nil, map}
 use mathlib.Core.Bool.{Bool, true, false}
@@ -9,7 +10,7 @@ use native.Mathlib.Omega.{arith}
 use lib.Dec.{eqb}
 use lib.ListN.{length, length-append}
 use borrow.Author.Tests.{le-ltb, ne_eqb}
-use Rattle.coding.specs.Words.{if◌then◌else◌, got, and_then, ok}
+use Rattle.coding.specs.Words.{got, and_then, ok}
 use Rattle.coding.specs.Bytes.{bytes_be}
 use Rattle.coding.specs.Places.{part_of}
 use Rattle.coding.specs.Varint.{var_size, var_bytes}
@@ -43,7 +44,7 @@ module _ (p b q : List ℕ) where
   -- a length byte, and so many
   cid_back : 0 < length b → length b ≤ 20
       → cid_at (p ++ ((length b ∷ b) ++ q)) (length p) ≡ done (record { start = length p + 1; len = length b }) (length p + 1 + length b)
-  unfolding cid_at and_then if◌then◌else◌
+  unfolding cid_at and_then
   cid_back h k =
       let e : bytes_be 1 (length b) ≡ length b ∷ [] = one_byte (length b) (omega arith) in
       let f = rw e at (fixed_back p (b ++ q) 1 (length b)) in
@@ -75,7 +76,7 @@ rest_back_law p b =
 
 field_back : (f : Field) (w : Word) (p q : List ℕ) (seen : List Value) (k : Value → ℕ → Read Said) → Fits f w seen q
     → field_at f (p ++ (field_bytes f w ++ q)) (length p) seen k ≡ k (value_at f w (length p)) (length p + length (field_bytes f w))
-unfolding field_at field_bytes and_then then_read if◌then◌else◌
+unfolding field_at field_bytes and_then then_read
 field_back var w p q seen k h = rw (var_back p q (word_number w) h, length_var)
 field_back or_none w p q seen k h = rw (var_back p q (word_number w) h, length_var)
 field_back at_most w p q seen k h = rw (var_back p q (word_number w) h.0, length_var, le-ltb (last_read seen) (word_number w) h.1)
@@ -128,7 +129,6 @@ frame_back rows t r ws p q e h k =
 
 -- a value is a number or nothing: no bytes are looked at
 same_none : (s : List ℕ) (x : ℕ) (b : Bool) → as_word s (if b then none else num x) ≡ as_word [] (if b then none else num x)
-unfolding if◌then◌else◌
 same_none s x true = refl
 same_none s x false = refl
 

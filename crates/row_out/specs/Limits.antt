@@ -1,6 +1,6 @@
 -- What a frame's writer may be given and may write: document 01, "Numbers we hold to".
-use Rattle.std.specs.Prelude.{ℕ, List, [], ◌∷◌, ◌++◌, Bool, true, false, length, ltb, leb}
-use Rattle.coding.specs.Words.{if◌then◌else◌, Answer, no, ok, number_end, max_datagram}
+use Rattle.std.specs.Prelude.{ℕ, List, [], ◌∷◌, ◌++◌, Bool, true, false, length, ltb, leb, if◌then◌else◌}
+use Rattle.coding.specs.Words.{Answer, no, ok, number_end, max_datagram}
 use Rattle.coding.specs.Varint.{var_bytes}
 use Rattle.frame.specs.Table.{Row}
 use Rattle.row_out.specs.Writing.{Word, number, raw, nothing, frame_bytes}

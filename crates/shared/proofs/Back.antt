@@ -1,4 +1,5 @@
 -- What is written of a CID is read back, wherever it stands.
+use Rattle.std.specs.Prelude.{if◌then◌else◌}
 use mathlib.Core.Path.{◌≡◌, refl, sym, ◌∙◌}
 use mathlib.Core.List.{List, [], ◌∷◌, ◌++◌}
 use Prim.Native.Nat.{ℕ, ◌+◌, ◌-◌, ◌%◌, ◌≤◌}
@@ -6,7 +7,7 @@ use native.Mathlib.Omega.{arith}
 use lib.ListN.{length, take, drop, replicate, length-append}
 use lib.Seq.{drop-append-add, take_at}
 use borrow.Author.Tests.{le-leb}
-use Rattle.coding.specs.Words.{if◌then◌else◌, got, and_then, ok}
+use Rattle.coding.specs.Words.{got, and_then, ok}
 use Rattle.coding.specs.Places.{part_of}
 use Rattle.coding.specs.Reading.{fixed_at}
 use Rattle.coding.specs.declared.Place.{Place}
@@ -27,7 +28,7 @@ module _ (p q : List ℕ) (c : ConnectionId) (short : c.len ≤ 20) (all : c.len
 
   -- the place is found
   pub long_back : long_cid_at (p ++ (long_bytes c ++ q)) (length p) ≡ got (behind (length p) c) (length p + 1 + c.len)
-  unfolding long_cid_at and_then if◌then◌else◌ long_bytes
+  unfolding long_cid_at and_then long_bytes
   long_back =
       let f : fixed_at 1 (p ++ ((c.len ∷ []) ++ (cid_bytes c ++ q))) (length p) ≡ got (c.len % 256) (length p + 1)
       = rw (one_byte c.len (omega arith)) at (fixed_back p (cid_bytes c ++ q) 1 c.len) in
@@ -44,7 +45,7 @@ module _ (p q : List ℕ) (c : ConnectionId) (short : c.len ≤ 20) (all : c.len
 
   -- so the CID comes back, with zeros past its length
   pub cid_back : cid_long (p ++ (long_bytes c ++ q)) (length p) ≡ (ok (length p + 1 + c.len), cid_of (cid_bytes c))
-  unfolding cid_long cid_on and_then if◌then◌else◌
+  unfolding cid_long cid_on and_then
   cid_back = rw (long_back, le-leb _ _ short, bytes_back)
 
 -- one that has zeros past its length comes back as it was

@@ -1,14 +1,15 @@
 -- Laws of the definitions, for this crate's proofs and those above it.
+use Rattle.std.specs.Prelude.{if◌then◌else◌}
 use mathlib.Core.Path.{◌≡◌, refl, ap}
 use mathlib.Core.List.{List, [], ◌∷◌, ◌++◌}
 use Prim.Native.Nat.{ℕ, zero, suc, ◌+◌, ◌-◌, ◌*◌, ◌/◌, ◌%◌, ◌^◌, ◌≤◌, ◌<◌}
 use native.Mathlib.Nat.{not-suc-le-zero, le_of_suc-le-suc}
 use native.Mathlib.Numerals.{add-one}
 use native.Mathlib.Omega.{arith}
-use lib.ListN.{length, take, get_or, set, replicate, length-take}
+use lib.ListN.{length, take, drop, get_or, set, replicate, length-take}
 use lib.Dec.{leb}
 use borrow.Author.Tests.{leb-true, le-leb, lt-leb, lt-ltb}
-use Rattle.coding.specs.Words.{if◌then◌else◌, Got, cut, got, no, ok}
+use Rattle.coding.specs.Words.{Got, cut, got, no, ok}
 use Rattle.coding.specs.Bytes.{bytes_be}
 use Rattle.coding.specs.Places.{part_of}
 use Rattle.coding.specs.Reading.{fixed_at, take_at}
@@ -39,7 +40,7 @@ fill_more l all i n h k e =
 pub part_short : (s : List ℕ) (p : Place) → length (part_of s p) ≤ p.len
 unfolding part_of
 part_short s p =
-    if_all (λ (l : List ℕ). length l ≤ p.len) _ _ _
+    if_all (λ (l : List ℕ). length l ≤ p.len) (leb (p.start + p.len) (length s)) (take p.len (drop p.start s)) []
     (λ e. simp length-take (omega arith))
     (λ e. omega arith)
 
@@ -83,36 +84,36 @@ module _ (c : ConnectionId) where
   -- at most 20 bytes
   module _ (h : c.len ≤ 20) where
     pub cid_some : cid_put c ≡ cid_bytes c
-    unfolding cid_put if◌then◌else◌
+    unfolding cid_put
     cid_some = simp (le-leb _ _ h)
 
     pub long_some : long_put c ≡ long_bytes c
-    unfolding long_put if◌then◌else◌
+    unfolding long_put
     long_some = simp (le-leb _ _ h)
 
     pub out_some : long_out c ≡ ok (long_bytes c)
-    unfolding long_out if◌then◌else◌
+    unfolding long_out
     out_some = simp (le-leb _ _ h)
 
   -- more
   module _ (h : 20 < c.len) where
     pub cid_nothing : cid_put c ≡ []
-    unfolding cid_put if◌then◌else◌
+    unfolding cid_put
     cid_nothing = simp (lt-leb _ _ h)
 
     pub long_nothing : long_put c ≡ []
-    unfolding long_put if◌then◌else◌
+    unfolding long_put
     long_nothing = simp (lt-leb _ _ h)
 
     pub out_none : long_out c ≡ no 14
-    unfolding long_out if◌then◌else◌
+    unfolding long_out
     out_none = simp (lt-leb _ _ h)
 
 -- ---- stream ids
 
 -- the parts of a stream id give it back
 pub stream_parts : (id : ℕ) → id < 2 ^ 62 → stream_made (initiator_of id) (dir_of id) (index_of id) ≡ ok id
-unfolding stream_made stream_id initiator_of dir_of index_of if◌then◌else◌
+unfolding stream_made stream_id initiator_of dir_of index_of
 stream_parts id h =
     let t : id / 4 < 2 ^ 60 = omega arith in
     let e : id / 4 * 4 + id / 2 % 2 * 2 + id % 2 ≡ id = omega arith in

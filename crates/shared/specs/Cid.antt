@@ -1,6 +1,6 @@
 -- Connection ids: RFC 9000, 5.1 and 17.2. A version 1 connection id is at most 20 bytes long.
-use Rattle.std.specs.Prelude.{ℕ, ◌-◌, List, [], ◌∷◌, ◌++◌, length, take, replicate, leb}
-use Rattle.coding.specs.Words.{if◌then◌else◌, Got, cut, and_then, Answer, no, ok}
+use Rattle.std.specs.Prelude.{ℕ, ◌-◌, List, [], ◌∷◌, ◌++◌, length, take, replicate, leb, if◌then◌else◌}
+use Rattle.coding.specs.Words.{Got, cut, and_then, Answer, no, ok}
 use Rattle.coding.specs.Places.{part_of}
 use Rattle.coding.specs.Reading.{fixed_at, take_at}
 use Rattle.coding.specs.declared.Place.{Place}

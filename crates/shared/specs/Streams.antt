@@ -1,6 +1,6 @@
 -- Stream ids: RFC 9000, 2.1.
-use Rattle.std.specs.Prelude.{ℕ, ◌+◌, ◌*◌, ◌/◌, ◌%◌, ◌^◌, ltb}
-use Rattle.coding.specs.Words.{if◌then◌else◌, Answer, no, ok}
+use Rattle.std.specs.Prelude.{ℕ, ◌+◌, ◌*◌, ◌/◌, ◌%◌, ◌^◌, ltb, if◌then◌else◌}
+use Rattle.coding.specs.Words.{Answer, no, ok}
 
 -- the least significant bit identifies the initiator: 0 the client, 1 the server
 unfoldable pub initiator_of : ℕ → ℕ

@@ -1,11 +1,12 @@
 -- The line of three spaces is not empty: all three move; an acknowledgement shortens the next cut of its own space alone; and every
 -- length is read rightly and misread in every space. The incident: an acknowledgement of a number that its space did not send is 14.
+use Rattle.std.specs.Prelude.{if◌then◌else◌}
 use Prim.Native.Nat.{ℕ, ◌≤◌}
 use mathlib.Core.Path.{◌≡◌, refl, sym, ap, ◌∙◌}
 use mathlib.Core.Bool.{Bool, true, false}
 use mathlib.Core.Option.{some}
 use mathlib.Core.List.{Memᴰ}
-use Rattle.coding.specs.Words.{if◌then◌else◌, Answer, ok}
+use Rattle.coding.specs.Words.{Answer, ok}
 use Rattle.number.specs.Cutting.{cut, window_of, is_cut, bytes_for, cut_to, cut_made}
 use Rattle.number.specs.Expanding.{decode_a3, expanded}
 use Rattle.number.specs.Ends.{none, at, Ends, fresh_ends, base_of, expected_of, larger_of, Packet, refused, done, send_end, send_with, send_by, acknowledge_by, read_by}
@@ -153,5 +154,5 @@ pub record Fed : Type 0 where
   pub reads : read_by fresh_ends (cut 1 233) ≡ ok 233
 
 pub fed_wrongly : Fed
-unfolding acknowledge_by send_end expected_of larger_of if◌then◌else◌ send_by send_with base_of cut_made cut_to bytes_for window_of read_by expanded is_cut decode_a3
+unfolding acknowledge_by send_end expected_of larger_of send_by send_with base_of cut_made cut_to bytes_for window_of read_by expanded is_cut decode_a3
 fed_wrongly = record { end = record { next = 1001; acked = at 1000; largest = none }; hears = refl; sends = refl; reads = refl }

@@ -1,4 +1,5 @@
 -- Laws of numbers in decimal and of bytes in hex.
+use Rattle.std.specs.Prelude.{if◌then◌else◌}
 use mathlib.Core.Path.{◌≡◌, refl, ap, ◌∙◌}
 use mathlib.Core.List.{List, [], ◌∷◌, ◌++◌}
 use mathlib.Core.Bool.{Bool, true, false}
@@ -10,7 +11,6 @@ use lib.Dec.{ltb}
 use lib.ListN.{length, take, get_or, length-append, get_or-append}
 use lib.Seq.{take-suc}
 use borrow.Author.Tests.{ltb-true, ltb-false, lt-ltb, le-ltb}
-use Rattle.coding.specs.Words.{if◌then◌else◌}
 use Rattle.text.specs.Decimal.{digits, decimal}
 use Rattle.text.specs.Hex.{hex_digit, hex_of, hex_or}
 
@@ -25,7 +25,7 @@ by_size x {P} one more = go (ltb x 10) refl
 
 -- any n that is more than x gives all the digits
 enough : (n m x : ℕ) → x < n → x < m → digits n x ≡ digits m x
-unfolding digits if◌then◌else◌
+unfolding digits
 enough zero m x h k = absurd (not-suc-le-zero h)
 enough (suc n) zero x h k = absurd (not-suc-le-zero k)
 enough (suc n) (suc m) x h k =
@@ -33,11 +33,11 @@ enough (suc n) (suc m) x h k =
     (λ g. rw (le-ltb x 10 g) (ap (λ (l : List ℕ). l ++ ((0x30 + x % 10) ∷ [])) (enough n m (x / 10) (omega arith) (omega arith))))
 
 pub one_digit : (x : ℕ) → x < 10 → decimal x ≡ (0x30 + x % 10) ∷ []
-unfolding decimal digits if◌then◌else◌
+unfolding decimal digits
 one_digit x h = rw (lt-ltb x 10 h)
 
 pub more_digits : (x : ℕ) → 10 ≤ x → decimal x ≡ decimal (x / 10) ++ ((0x30 + x % 10) ∷ [])
-unfolding decimal digits if◌then◌else◌
+unfolding decimal digits
 more_digits x h = rw (le-ltb x 10 h) (ap (λ (l : List ℕ). l ++ ((0x30 + x % 10) ∷ [])) (enough x (suc (x / 10)) (x / 10) (omega arith) (omega arith)))
 
 -- what holds of one digit, and of a number if of its tenth, holds of every number

@@ -1,11 +1,11 @@
 -- How a text's pieces are put one after the other.
+use Rattle.std.specs.Prelude.{if◌then◌else◌}
 use mathlib.Core.Path.{◌≡◌, refl, sym, ap, ◌∙◌}
 use mathlib.Core.List.{List, [], ◌∷◌, ◌++◌}
 use mathlib.Core.Bool.{Bool, true, false}
 use Prim.Native.Nat.{ℕ, ◌+◌}
 use lib.ListN.{length}
 use lib.Dec.{leb}
-use Rattle.coding.specs.Words.{if◌then◌else◌}
 use Rattle.coding.specs.Bytes.{splice}
 use Rattle.coding.specs.Writing.{Put}
 use Rattle.text.specs.Puts.{put_one, puts, PutAll}
@@ -18,7 +18,7 @@ puts_more (x ∷ xs) ys o = puts_more xs ys (put_one x o)
 
 -- a put is a text of one piece
 pub one_piece : {bs old new : List ℕ} {at r : ℕ} → Put bs old at r new → PutAll (bs ∷ []) old at r new
-unfolding puts put_one if◌then◌else◌
+unfolding puts put_one
 one_piece {bs} {old} {new} {at} {r} p = pair ∙ go (leb (at + length bs) (length old))
   where
     there : Bool → ℕ × List ℕ

@@ -1,6 +1,5 @@
 -- Numbers in decimal: ASCII digits, no leading zeros, and 0 as one digit.
-use Rattle.std.specs.Prelude.{ℕ, zero, suc, ◌+◌, ◌/◌, ◌%◌, List, [], ◌∷◌, ◌++◌, ltb}
-use Rattle.coding.specs.Words.{if◌then◌else◌}
+use Rattle.std.specs.Prelude.{ℕ, zero, suc, ◌+◌, ◌/◌, ◌%◌, List, [], ◌∷◌, ◌++◌, ltb, if◌then◌else◌}
 
 -- the digits of x, at most the last n: those of x / 10, where x is more than one digit, and then the digit of x % 10
 unfoldable pub digits : ℕ → ℕ → List ℕ

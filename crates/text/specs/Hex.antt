@@ -1,6 +1,5 @@
 -- Bytes in hex: two ASCII digits a byte, the letters in lower case.
-use Rattle.std.specs.Prelude.{ℕ, ◌+◌, ◌/◌, ◌%◌, List, [], ◌∷◌, ltb}
-use Rattle.coding.specs.Words.{if◌then◌else◌}
+use Rattle.std.specs.Prelude.{ℕ, ◌+◌, ◌/◌, ◌%◌, List, [], ◌∷◌, ltb, if◌then◌else◌}
 
 -- "0" to "9", "a" to "f"
 unfoldable pub hex_digit : ℕ → ℕ

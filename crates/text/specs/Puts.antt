@@ -1,6 +1,5 @@
 -- A text is a list of pieces, put one after the other; a piece that does not fit is left out.
-use Rattle.std.specs.Prelude.{ℕ, ◌+◌, ◌≡◌, List, [], ◌∷◌, length, leb}
-use Rattle.coding.specs.Words.{if◌then◌else◌}
+use Rattle.std.specs.Prelude.{ℕ, ◌+◌, ◌≡◌, List, [], ◌∷◌, length, leb, if◌then◌else◌}
 use Rattle.coding.specs.Bytes.{splice}
 
 -- a piece at a place of a buffer: the next place, and the buffer then (coding's `Put`, as a function)

@@ -1,4 +1,5 @@
 -- What the records give back: of one item what the crate below says of it, of several how many they are, of a writer its answer.
+use Rattle.std.specs.Prelude.{if◌then◌else◌}
 use Prim.Native.Nat.{ℕ, ◌+◌, ◌*◌, ◌/◌, ◌%◌, ◌^◌, ◌<◌}
 use mathlib.Core.Path.{◌≡◌, refl, sym, ◌∙◌}
 use mathlib.Core.List.{List, [], ◌∷◌, map}
@@ -8,7 +9,7 @@ use lib.ListN.{length}
 use lib.Bits.{xor_self}
 use lib.Dec.{eqb}
 use borrow.Author.Tests.{ne_eqb}
-use Rattle.coding.specs.Words.{if◌then◌else◌, Got, got, and_then, Answer, no, ok}
+use Rattle.coding.specs.Words.{Got, got, and_then, Answer, no, ok}
 use Rattle.coding.specs.Words as found
 use Rattle.coding.specs.Varint.{var_at}
 use Rattle.coding.specs.Refusals.{number_of}
@@ -34,7 +35,7 @@ one_back f r = if eqb r.refusal 0 then ok (f r.mixed) else no r.refusal
 
 -- one packet number is cut as `number` says: the length stands above the value's four bytes
 pub cut_back : (n acked : ℕ) → one_back (λ x. cut (x / 2 ^ 32) (x % 2 ^ 32)) (gathered (cuts_of acked (n ∷ []))) ≡ cut_made n acked
-unfolding gathered gathered_from cut_said if◌then◌else◌
+unfolding gathered gathered_from cut_said
 cut_back n acked = go (cut_made n acked) refl (cut_refuses n acked)
   where
     go : (a : Answer CutNumber) → cut_made n acked ≡ a → Refuses a → one_back (λ x. cut (x / 2 ^ 32) (x % 2 ^ 32)) (gathered (cut_said a ∷ [])) ≡ a
@@ -48,7 +49,7 @@ cut_back n acked = go (cut_made n acked) refl (cut_refuses n acked)
 
 -- and one cut number is read back as `number` says
 pub full_back : (k expected v : ℕ) → one_back (λ x. x) (gathered (fulls_of k expected (v ∷ []))) ≡ expanded (cut k v) expected
-unfolding gathered gathered_from if◌then◌else◌
+unfolding gathered gathered_from
 full_back k expected v = go (expanded (cut k v) expected) (expanded_refuses (cut k v) expected)
   where
     go : (a : Answer ℕ) → Refuses a → one_back (λ x. x) (gathered (a ∷ [])) ≡ a
@@ -61,7 +62,7 @@ body_back n r = if eqb r.refusal 0 then done (said 0x10 (num r.mixed ∷ [])) n 
 
 pub var_back : (s : List ℕ) → 0 < length s → ((v next : ℕ) → var_at s 0 ≡ got v next → next ≡ length s)
     → body_back (length s) (gathered (vars_of s)) ≡ frame_body_at table 0x10 s 0
-unfolding frame_body_at table fields_at field_at and_then if◌then◌else◌
+unfolding frame_body_at table fields_at field_at and_then
 var_back s h one = go (var_at s 0) refl
   where
     go : (m : Got ℕ) → var_at s 0 ≡ m → body_back (length s) (gathered (vars_of s)) ≡ frame_body_at table 0x10 s 0
@@ -90,7 +91,7 @@ twice v = xor_self v
 
 -- a writer's record is its answer
 pub write_back : (w : Answer ℕ) → Refuses w → (if eqb (write_record w).refusal 0 then ok (write_record w).len else no (write_record w).refusal) ≡ w
-unfolding write_record if◌then◌else◌
+unfolding write_record
 write_back (ok n) h = refl
 write_back (no k) h = rw (ne_eqb k 0 h)
 

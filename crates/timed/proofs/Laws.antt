@@ -1,4 +1,5 @@
 -- What a turn of each loop comes to, and what a writer's answer is as a record.
+use Rattle.std.specs.Prelude.{if◌then◌else◌}
 use Prim.Native.Nat.{ℕ, zero, suc, ◌+◌, ◌-◌, ◌≤◌, ◌<◌, ◌^◌}
 use mathlib.Core.Path.{◌≡◌, refl, ◌∙◌, ap}
 use mathlib.Core.List.{List, ◌∷◌, map}
@@ -10,7 +11,7 @@ use lib.Seq.{drop-cons, drop-length}
 use lib.Bits.{bit_xor}
 use lib.Dec.{ltb}
 use borrow.Author.Tests.{lt-ltb, le-ltb}
-use Rattle.coding.specs.Words.{if◌then◌else◌, cut, got, and_then, Answer, no, ok}
+use Rattle.coding.specs.Words.{cut, got, and_then, Answer, no, ok}
 use Rattle.coding.specs.Varint.{var_at}
 use Rattle.coding.specs.Writing.{Written}
 use Rattle.shared.specs.declared.kinds.CutNumber.{CutNumber}
@@ -28,7 +29,7 @@ start s = let e : length s - 0 ≡ length s = omega arith in ap (λ (n : ℕ). g
 module _ (s : List ℕ) (at count mixed : ℕ) where
   -- no byte is left
   pub vars_end : (n : ℕ) → length s ≤ at → gathered_from (vars_from n s at) count mixed ≡ record { refusal = 0; count = count; mixed = mixed }
-  unfolding gathered_from vars_from if◌then◌else◌
+  unfolding gathered_from vars_from
   vars_end zero h = refl
   vars_end (suc n) h = rw (le-ltb at (length s) h)
 
@@ -38,12 +39,12 @@ module _ (s : List ℕ) (at count mixed : ℕ) where
     turn = omega arith
 
     pub vars_cut : var_at s at ≡ cut → gathered_from (vars_from (length s - count) s at) count mixed ≡ record { refusal = 10; count = count; mixed = mixed }
-    unfolding gathered_from vars_from if◌then◌else◌ and_then
+    unfolding gathered_from vars_from and_then
     vars_cut e = rw (turn, lt-ltb at (length s) k, e)
 
     pub vars_on : (v next : ℕ) → var_at s at ≡ got v next
         → gathered_from (vars_from (length s - count) s at) count mixed ≡ gathered_from (vars_from (length s - (count + 1)) s next) (count + 1) (bit_xor mixed v)
-    unfolding gathered_from vars_from if◌then◌else◌ and_then
+    unfolding gathered_from vars_from and_then
     vars_on v next e = rw (turn, lt-ltb at (length s) k, e)
 
 -- ---- the numbers of a slice, each by what f says
@@ -69,7 +70,7 @@ module _ (f : ℕ → Answer ℕ) (xs : List ℕ) (i mixed : ℕ) where
 
 -- a cut number that is not read back is refused 14
 pub only_14 : (c : CutNumber) (e k : ℕ) → expanded c e ≡ no k → expanded c e ≡ no 14
-unfolding expanded if◌then◌else◌
+unfolding expanded
 only_14 c e k = go (is_cut c) (ltb (2 ^ 62) e) _
   where
     go : (t u : Bool) (n : ℕ) → (if t then (if u then no 14 else ok n) else no 14) ≡ no k → (if t then (if u then no 14 else ok n) else no 14) ≡ no 14
@@ -86,9 +87,9 @@ so f q = record { says = q ∙ ap write_record f.says; leaves = f.leaves }
 
 module _ (flag : ℕ) (w : Answer (List ℕ)) where
   pub flag_no : 1 < flag → flagged flag w ≡ no 14
-  unfolding flagged if◌then◌else◌
+  unfolding flagged
   flag_no h = rw (lt-ltb 1 flag h)
 
   pub flag_on : flag ≤ 1 → flagged flag w ≡ w
-  unfolding flagged if◌then◌else◌
+  unfolding flagged
   flag_on h = rw (le-ltb 1 flag h)

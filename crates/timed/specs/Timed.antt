@@ -1,7 +1,7 @@
 -- What the functions that bench/ times answer: the records over the definitions of the crates below.
-use Rattle.std.specs.Prelude.{ℕ, zero, suc, ◌+◌, ◌*◌, ◌^◌, ◌≡◌, List, [], ◌∷◌, map, length, ltb}
+use Rattle.std.specs.Prelude.{ℕ, zero, suc, ◌+◌, ◌*◌, ◌^◌, ◌≡◌, List, [], ◌∷◌, map, length, ltb, if◌then◌else◌}
 use Rattle.std.specs.Int.Bits.{bit_xor}
-use Rattle.coding.specs.Words.{if◌then◌else◌, and_then, Answer, no, ok}
+use Rattle.coding.specs.Words.{and_then, Answer, no, ok}
 use Rattle.coding.specs.Varint.{var_at}
 use Rattle.coding.specs.Writing.{in_room, length_of, into_buffer}
 use Rattle.shared.specs.declared.kinds.CutNumber.{CutNumber}

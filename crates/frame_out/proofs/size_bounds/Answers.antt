@@ -1,5 +1,5 @@
+use Rattle.std.specs.Prelude.{if◌then◌else◌}
 use mathlib.Core.Path.{refl}
-use Rattle.coding.specs.Words.{if◌then◌else◌}
 use Rattle.coding.specs.Varint.{var_tag, var_size}
 use Rattle.frame.specs.Table.{table}
 use Rattle.row_out.specs.Bounds.{bound_of}
@@ -7,5 +7,5 @@ use Rattle.frame_out.specs.Bounds.{size_bounds}
 use Rattle.frame_out.proofs.size_bounds.Goals as goal
 
 pub returns : goal.returns
-unfolding size_bounds bound_of table var_size var_tag if◌then◌else◌
+unfolding size_bounds bound_of table var_size var_tag
 returns c = refl

@@ -1,25 +1,25 @@
+use Rattle.std.specs.Prelude.{if◌then◌else◌}
 use native.Mathlib.Omega.{arith}
 use mathlib.Core.Logic.{⊎_elim}
 use mathlib.Core.Path.{sym}
-use Rattle.coding.specs.Words.{if◌then◌else◌}
 use Rattle.number.specs.Cutting.{window_of}
 use Rattle.number.proofs.Windows.{le?, window_low, window_high}
 use Rattle.number.proofs.window.Goals as goal
 
 pub returns-in-1 : goal.returns-in-1
-unfolding window_of if◌then◌else◌
+unfolding window_of
 returns-in-1 c = rw c.in-1.is
 
 pub returns-in-2 : goal.returns-in-2
-unfolding window_of if◌then◌else◌
+unfolding window_of
 returns-in-2 c = rw c.in-2.is
 
 pub returns-in-3 : goal.returns-in-3
-unfolding window_of if◌then◌else◌
+unfolding window_of
 returns-in-3 c = rw c.in-3.is
 
 pub returns-in-4 : goal.returns-in-4
-unfolding window_of if◌then◌else◌
+unfolding window_of
 returns-in-4 c = rw c.in-4.is
 
 pub returns-in_default : goal.returns-in_default

@@ -1,8 +1,8 @@
+use Rattle.std.specs.Prelude.{if◌then◌else◌}
 use native.Mathlib.Omega.{arith}
 use mathlib.Core.Path.{◌≡◌}
 use mathlib.Core.Bool.{true, false}
 use lib.ListN.{length}
-use Rattle.coding.specs.Words.{if◌then◌else◌}
 use Rattle.coding.specs.Varint.{var_bytes, var_size}
 use Rattle.coding.proofs.Laws.{put_some, length_var}
 use Rattle.coding.proofs.Writes.{put_none, put_fits, put_so, so_put}
@@ -11,13 +11,13 @@ use Rattle.packet_out.proofs.Laws.{length_token}
 use Rattle.packet_out.proofs.put_token.Goals as goal
 
 pub returns-then-not-has_token : goal.returns-then-not-has_token
-unfolding token_bytes if◌then◌else◌
+unfolding token_bytes
 returns-then-not-has_token c =
     let e : c.args.has_token ≡ false = c.if-not-has_token.true in
     rw e (put_none _ _)
 
 pub returns : goal.returns
-unfolding token_bytes if◌then◌else◌
+unfolding token_bytes
 returns c =
     let a = c.args in
     let e : a.has_token ≡ true = c.if-not-has_token.false in

@@ -1,11 +1,11 @@
-use Rattle.coding.specs.Words.{if◌then◌else◌}
+use Rattle.std.specs.Prelude.{if◌then◌else◌}
 use Rattle.frame.specs.Format.{data_if}
 use Rattle.frame.proofs.field.data_if.Goals as goal
 
 pub returns-then-there : goal.returns-then-there
-unfolding data_if if◌then◌else◌
+unfolding data_if
 returns-then-there c = rw c.if-there.true c.take_len.ensures
 
 pub returns : goal.returns
-unfolding data_if if◌then◌else◌
+unfolding data_if
 returns c = rw c.if-there.false c.take_remaining.ensures

@@ -1,4 +1,4 @@
-use Rattle.coding.specs.Words.{if◌then◌else◌}
+use Rattle.std.specs.Prelude.{if◌then◌else◌}
 use mathlib.Core.Path.{refl}
 use Prim.Native.Nat.{◌≤◌}
 use native.Mathlib.Omega.{arith}
@@ -7,27 +7,27 @@ use Rattle.gateway.specs.Arguments.{long_kind, numbered_kind, kind_at}
 use Rattle.gateway.proofs.packets.kind_of.Goals as goal
 
 pub returns-in-0 : goal.returns-in-0
-unfolding long_kind numbered_kind kind_at if◌then◌else◌
+unfolding long_kind numbered_kind kind_at
 returns-in-0 c = rw c.in-0.is (refl, refl, refl)
 
 pub returns-in-1 : goal.returns-in-1
-unfolding long_kind numbered_kind kind_at if◌then◌else◌
+unfolding long_kind numbered_kind kind_at
 returns-in-1 c = rw c.in-1.is (refl, refl, refl)
 
 pub returns-in-2 : goal.returns-in-2
-unfolding long_kind numbered_kind kind_at if◌then◌else◌
+unfolding long_kind numbered_kind kind_at
 returns-in-2 c = rw c.in-2.is (refl, refl, refl)
 
 pub returns-in-3 : goal.returns-in-3
-unfolding long_kind numbered_kind kind_at if◌then◌else◌
+unfolding long_kind numbered_kind kind_at
 returns-in-3 c = rw c.in-3.is (refl, refl, refl)
 
 pub returns-in-4 : goal.returns-in-4
-unfolding long_kind numbered_kind kind_at if◌then◌else◌
+unfolding long_kind numbered_kind kind_at
 returns-in-4 c = rw c.in-4.is (refl, refl, refl)
 
 pub returns-in_default : goal.returns-in_default
-unfolding long_kind numbered_kind kind_at if◌then◌else◌
+unfolding long_kind numbered_kind kind_at
 returns-in_default c =
     let no = c.in_default.in_default-own.rest in
     let k = c.args.kind in
