@@ -1,22 +1,23 @@
 -- A frame's record gives back what the table said, for any table whose rows have at most six fields; and so have this one's.
-use Rattle.std.specs.Prelude.{if◌then◌else◌}
+use Rattle.std.specs.Prelude.{eqb, ltb, leb, if◌then◌else◌}
 use mathlib.Core.Path.{◌≡◌, refl, ap, ◌∙◌}
 use mathlib.Core.List.{List, [], ◌∷◌}
 use mathlib.Core.Bool.{Bool, true, false, cond}
 use mathlib.Core.Option.{Option, some}
 use mathlib.Core.Option as option
-use Prim.Native.Nat.{ℕ, zero, suc, ◌+◌, ◌≤◌}
+use Prim.Native.Nat.{ℕ, zero, suc, ◌+◌, ◌-◌, ◌≤◌}
 use native.Mathlib.Omega.{arith}
 use lib.ListN.{length, take}
 use borrow.Author.Tests.{ne_eqb}
-use Rattle.coding.specs.Words.{Answer, no, ok}
+use Rattle.coding.specs.Words.{Answer, no, ok, and_then, max_datagram}
 use Rattle.coding.specs.Reading.{fixed_at, take_at}
 use Rattle.coding.specs.Varint.{var_at}
 use Rattle.coding.specs.declared.Place.{Place}
 use Rattle.coding.proofs.Rules.{if_all, then_all}
 use Rattle.coding.proofs.Numbers.{Refuses}
 use Rattle.ack.specs.Scan.{rounds, scan_at}
-use Rattle.frame.specs.Format.{Value, num, place, none, Said, said, Field, var, or_none, at_most, bytes, rest, fixed, num64, cid, ack_blocks, const, absent, last_but_one, in_order, Read, done, refuse, then_read, bytes_at, all_left_at, cid_at, up_to, blocks_at, field_at, fields_at, bit}
+use Rattle.shared.specs.Cid.{max_cid}
+use Rattle.frame.specs.Format.{Value, num, place, none, Said, said, Field, var, or_none, at_most, bytes, rest, fixed, num64, cid, ack_blocks, const, absent, last_read, last_but_one, in_order, Read, done, refuse, then_read, bytes_at, all_left_at, cid_at, up_to, blocks_at, field_at, fields_at, bit}
 use Rattle.frame.specs.Table.{Row, look, has, read_row, frame_body_at, table, FrameOutcome, taken, refused, outcome, frame_at, ack_fields}
 use Rattle.frame.specs.Walk.{WalkStep, frame, end, step_at}
 use Rattle.gateway_frame.specs.Frames.{value_of, frame_record, frame_for}
@@ -50,16 +51,20 @@ module _ (s : List ℕ) where
   unfolding rounds
   rounds_fine zero at smallest = tt
   rounds_fine (suc n) at smallest =
-      then_all Refuses (var_at s at) _ _ (λ _. ten) (λ gap mid _.
-      if_all Refuses _ _ _ (λ _. twelve) (λ _.
-      then_all Refuses (var_at s mid) _ _ (λ _. ten) (λ block past _.
-      if_all Refuses _ _ _ (λ _. twelve) (λ _. rounds_fine n past _))))
+      let below : ℕ → ℕ → ℕ → Answer ℕ = λ largest block past. if ltb largest block then no 12 else rounds s n past (largest - block) in
+      let gapped : ℕ → ℕ → Answer ℕ = λ gap mid. and_then (var_at s mid) (no 10) (below (smallest - (gap + 2))) in
+      then_all Refuses (var_at s at) (no 10) (λ gap mid. if ltb smallest (gap + 2) then no 12 else gapped gap mid) (λ _. ten) (λ gap mid _.
+      if_all Refuses (ltb smallest (gap + 2)) (no 12) (gapped gap mid) (λ _. twelve) (λ _.
+      let largest : ℕ = smallest - (gap + 2) in
+      then_all Refuses (var_at s mid) (no 10) (below largest) (λ _. ten) (λ block past _.
+      if_all Refuses (ltb largest block) (no 12) (rounds s n past (largest - block)) (λ _. twelve) (λ _. rounds_fine n past (largest - block)))))
 
   scan_fine : (at largest n : ℕ) → Refuses (scan_at s at largest n)
   unfolding scan_at
   scan_fine at largest n =
-      then_all Refuses (var_at s at) _ _ (λ _. ten) (λ first after _.
-      if_all Refuses _ _ _ (λ _. twelve) (λ _. rounds_fine n after _))
+      let below : ℕ → ℕ → Answer ℕ = λ first after. if ltb largest first then no 12 else rounds s n after (largest - first) in
+      then_all Refuses (var_at s at) (no 10) below (λ _. ten) (λ first after _.
+      if_all Refuses (ltb largest first) (no 12) (rounds s n after (largest - first)) (λ _. twelve) (λ _. rounds_fine n after (largest - first)))
 
   up_fine : (p : ℕ) (r : Answer ℕ) → Refuses r → Fine any (up_to p r)
   unfolding up_to
@@ -73,10 +78,12 @@ module _ (s : List ℕ) where
   cid_fine : (at : ℕ) → Fine any (cid_at s at)
   unfolding cid_at
   cid_fine at =
-      then_all (Fine any) (fixed_at 1 s at) _ _ (λ _. ten) (λ l p _.
-      if_all (Fine any) _ _ _ (λ _. twelve) (λ _.
-      if_all (Fine any) _ _ _ (λ _. twelve) (λ _.
-      then_all (Fine any) (take_at l s p) _ _ (λ _. ten) (λ id n _. tt))))
+      let taken_at : ℕ → ℕ → Read Place = λ l p. and_then (take_at l s p) (refuse 10) (λ id n. done id n) in
+      let long : ℕ → ℕ → Read Place = λ l p. if ltb max_cid l then refuse 12 else taken_at l p in
+      then_all (Fine any) (fixed_at 1 s at) (refuse 10) (λ l p. if eqb l 0 then refuse 12 else long l p) (λ _. ten) (λ l p _.
+      if_all (Fine any) (eqb l 0) (refuse 12) (long l p) (λ _. twelve) (λ _.
+      if_all (Fine any) (ltb max_cid l) (refuse 12) (taken_at l p) (λ _. twelve) (λ _.
+      then_all (Fine any) (take_at l s p) (refuse 10) (λ id n. done id n) (λ _. ten) (λ id n _. tt))))
 
   module _ (P : Said → Type 0) where
     then_fine : (r : Read Place) → Fine any r → (f : Place → ℕ → Read Said) → ((p : Place) (n : ℕ) → Fine P (f p n)) → Fine P (then_read r f)
@@ -88,7 +95,9 @@ module _ (s : List ℕ) where
     unfolding field_at
     field_fine var at seen next g = then_all (Fine P) (var_at s at) _ _ (λ _. ten) (λ v n _. g _ n)
     field_fine or_none at seen next g = then_all (Fine P) (var_at s at) _ _ (λ _. ten) (λ v n _. g _ n)
-    field_fine at_most at seen next g = then_all (Fine P) (var_at s at) _ _ (λ _. ten) (λ v n _. if_all (Fine P) _ _ _ (λ _. twelve) (λ _. g _ n))
+    field_fine at_most at seen next g =
+        then_all (Fine P) (var_at s at) (refuse 10) (λ v n. if ltb (last_read seen) v then refuse 12 else next (num v) n) (λ _. ten) (λ v n _.
+        if_all (Fine P) (ltb (last_read seen) v) (refuse 12) (next (num v) n) (λ _. twelve) (λ _. g (num v) n))
     field_fine bytes at seen next g = then_all (Fine P) (bytes_at s at) _ _ (λ _. ten) (λ v n _. g _ n)
     field_fine rest at seen next g = then_all (Fine P) (all_left_at s at) _ _ (λ _. ten) (λ v n _. g _ n)
     field_fine (fixed w) at seen next g = then_all (Fine P) (take_at w s at) _ _ (λ _. ten) (λ v n _. g _ n)
@@ -151,9 +160,12 @@ module _ (rows : List Row) (few : AtMostSix rows) (at : ℕ) where
   pub step_back : (s : List ℕ) → Back (step_at rows s at)
   unfolding step_at frame_at frame_body_at
   step_back s =
-      if_all Back _ _ _ (λ _. none_back 14 (λ z. omega (arith, z))) (λ _.
-      if_all Back _ _ _ (λ _. none_back 13 (λ z. omega (arith, z))) (λ _.
-      if_all Back _ _ _ (λ _. end_back) (λ _.
+      let read : WalkStep = frame (frame_at rows s at) in
+      let ended : WalkStep = if leb (length s) at then end else read in
+      let empty : WalkStep = if eqb (length s) 0 then frame (refused 13 at option.none) else ended in
+      if_all Back (ltb max_datagram (length s)) (frame (refused 14 at option.none)) empty (λ _. none_back 14 (λ z. omega (arith, z))) (λ _.
+      if_all Back (eqb (length s) 0) (frame (refused 13 at option.none)) ended (λ _. none_back 13 (λ z. omega (arith, z))) (λ _.
+      if_all Back (leb (length s) at) end read (λ _. end_back) (λ _.
       then_all (λ (o : FrameOutcome). Back (frame o)) (var_at s at) _ _ (λ _. none_back 10 ten) (λ t n _. read_back t _ (row_fine s (look rows t) t n)))))
 
 -- ---- the table of frames
