@@ -1,5 +1,5 @@
 -- A record of split gives back what the step of the walk says, and all that it names lies in the packet.
-use Rattle.std.specs.Prelude.{if◌then◌else◌}
+use Rattle.std.specs.Prelude.{leb, if◌then◌else◌}
 use mathlib.Core.Path.{◌≡◌, refl, sym, ◌∙◌}
 use mathlib.Core.List.{List, []}
 use mathlib.Core.Bool.{Bool, true, false}
@@ -17,7 +17,7 @@ use Rattle.shared.specs.Cid.{cid_of}
 use Rattle.shared.specs.declared.cid.ConnectionId.{ConnectionId}
 use Rattle.frame.specs.Table.{flag}
 use Rattle.packet.specs.TypeBits.{type_of}
-use Rattle.packet.specs.Header.{Header, initial, zero_rtt, handshake, retry, short, negotiate, Outcome, refused_header, header_at, length_in}
+use Rattle.packet.specs.Header.{Header, initial, zero_rtt, handshake, retry, short, negotiate, Outcome, refused_header, outside, header_at, length_in}
 use Rattle.packet.specs.Split.{Split, cut_at, no_packet, split_by, split_on, split_with, split_at}
 use Rattle.packet.specs.Walk.{at_end, PacketStep, met_on, step_on, stop_at, packet_step_at}
 use Rattle.packet.proofs.Splits.{split_taken}
@@ -92,6 +92,10 @@ split_header P s local versions grease p q = on (header_at s local versions grea
     on (no k) = p
     on (ok x) = by (length_in (ok x))
 
+-- the step past the last packet
+abbrev past : PacketStep
+past = record { met = at_end; header = refused_header 1 }
+
 module _ (s : List ℕ) (at : ℕ) where
   -- a step that says a, over a packet of len bytes
   on_back : (len : ℕ) (dst src : ConnectionId) (version end : ℕ) (a : Answer Header) → Stand (drop at s) a (saying (drop at s) at len dst src version end a)
@@ -127,9 +131,12 @@ module _ (s : List ℕ) (at : ℕ) where
     step_back : walk_step_back s (step_record at (packet_step_at s at local versions grease)) ≡ packet_step_at s at local versions grease
     unfolding packet_step_at step_on
     step_back =
-        if_all Back _ _ _ (λ b. stop_back 14 (λ z. omega (arith, z)) (λ z. omega (arith, z))) (λ b.
-        if_all Back _ _ _ (λ c. stop_back 1 (λ z. omega (arith, z)) (λ z. omega (arith, z))) (λ c.
-        if_all Back _ _ _ (λ d. end_back) (λ d. outcome_back_law _ _ split_stands)))
+        let x : Split = split_at (drop at s) local versions grease in
+        let ended : PacketStep = if leb (length s) at then past else step_on at x in
+        if_all Back (outside s local versions) (stop_at at 14) (if eqb (length s) 0 then stop_at at 1 else ended)
+        (λ b. stop_back 14 (λ z. omega (arith, z)) (λ z. omega (arith, z))) (λ b.
+        if_all Back (eqb (length s) 0) (stop_at at 1) ended (λ c. stop_back 1 (λ z. omega (arith, z)) (λ z. omega (arith, z))) (λ c.
+        if_all Back (leb (length s) at) past (step_on at x) (λ d. end_back) (λ d. outcome_back_law x.packet.len x.header split_stands)))
 
 pub split_back : SplitGivesBack
 split_back s at local versions grease = rw (flag_small grease, flag_back grease) (step_back s at local versions grease)
@@ -171,9 +178,11 @@ module _ (s : List ℕ) (at local : ℕ) (versions : List ℕ) (grease : Bool) w
   step_inside : Inside (packet_step_at s at local versions grease)
   unfolding packet_step_at
   step_inside =
-      if_all Inside _ _ _ (λ b. stop_inside 14) (λ b.
-      if_all Inside _ _ _ (λ c. stop_inside 1) (λ c.
-      if_all Inside _ _ _ (λ d h. absurd (omega (arith, h))) (λ d. split_inside (leb-false _ _ d))))
+      let met : PacketStep = step_on at (split_at (drop at s) local versions grease) in
+      let ended : PacketStep = if leb (length s) at then past else met in
+      if_all Inside (outside s local versions) (stop_at at 14) (if eqb (length s) 0 then stop_at at 1 else ended) (λ b. stop_inside 14) (λ b.
+      if_all Inside (eqb (length s) 0) (stop_at at 1) ended (λ c. stop_inside 1) (λ c.
+      if_all Inside (leb (length s) at) past met (λ d h. absurd (omega (arith, h))) (λ d. split_inside (leb-false _ _ d))))
 
 pub split_holds : SplitHolds
 split_holds s at local versions grease = rw (flag_small grease, flag_back grease) (step_inside s at local versions grease)

@@ -1,5 +1,5 @@
 -- Where the connection ids and the token of a header that was read stand, whatever the type bits mean.
-use Rattle.std.specs.Prelude.{if◌then◌else◌}
+use Rattle.std.specs.Prelude.{◌*◌, ◌/◌, ◌%◌, eqb, if◌then◌else◌}
 use mathlib.Core.Path.{◌≡◌, refl, sym, ap, ◌∙◌}
 use mathlib.Core.List.{List, []}
 use mathlib.Core.Bool.{Bool, true, false, ◌||◌}
@@ -8,19 +8,20 @@ use native.Mathlib.Omega.{arith}
 use lib.ListN.{length, take, drop, length-take, length-drop}
 use lib.Dec.{ltb}
 use borrow.Author.Tests.{le-leb, ltb-false}
-use Rattle.coding.specs.Words.{Answer, no, ok}
+use Rattle.coding.specs.Words.{Answer, no, ok, and_then}
 use Rattle.coding.specs.Places.{part_of}
 use Rattle.coding.specs.Reading.{fixed_at, take_at}
 use Rattle.coding.specs.Varint.{var_at}
 use Rattle.coding.specs.declared.Place.{Place}
 use Rattle.coding.proofs.Laws.{fixed_inside, take_inside, var_inside}
 use Rattle.coding.proofs.Rules.{if_all, then_all}
+use Rattle.shared.specs.FirstByte.{long_header_form, spin_bit}
 use Rattle.shared.specs.Cid.{long_cid_at, cid_of, cid_on}
 use Rattle.shared.specs.declared.cid.ConnectionId.{ConnectionId}
 use Rattle.shared.proofs.Laws.{long_inside}
 use Rattle.packet.specs.TypeBits.{PacketType}
 use Rattle.packet.specs.TypeBits as type
-use Rattle.packet.specs.Header.{Header, initial, zero_rtt, handshake, retry, short, negotiate, Outcome, refused_header, headed, initial_at, length_at, tail_at, body_at, long_at, short_at, first_at, outside, header_by}
+use Rattle.packet.specs.Header.{Header, initial, zero_rtt, handshake, retry, short, negotiate, Outcome, refused_header, listed, unfixed, headed, initial_at, length_at, tail_at, body_at, long_at, short_at, first_at, outside, header_by}
 
 abbrev placed : ℕ → ℕ → Place
 placed start len = record { start = start; len = len }
@@ -96,8 +97,12 @@ module _ (s : List ℕ) where
     body_stands : (types : ℕ → ℕ → PacketType) (steer rest : ℕ) (versions : List ℕ) → Stands (body_at types steer rest s versions v dst src at)
     unfolding body_at headed
     body_stands types steer rest versions =
-        if_all Stands _ _ _ (λ b. long _ at refl refl (omega arith)) (λ b.
-        if_all Stands _ _ _ (λ c. tail_stands _) (λ c. (λ z. omega (arith, z), (λ e. (at, long _ at refl refl (omega arith)), λ e. absurd (e refl)))))
+        let unlisted : Outcome = record { said = no 4; dst = dst; src = src; version = v; end = 0 } in
+        let negotiation : Outcome = headed dst src v (negotiate (steer % 8 * 16 + rest)) at in
+        let tail : Outcome = tail_at (types v (steer % 4)) (headed dst src v) s at in
+        if_all Stands (eqb v 0) negotiation (if listed versions v then tail else unlisted) (λ b. long _ at refl refl (omega arith)) (λ b.
+        if_all Stands (listed versions v) tail unlisted (λ c. tail_stands (types v (steer % 4))) (λ c.
+        (λ z. omega (arith, z), (λ e. (at, long _ at refl refl (omega arith)), λ e. absurd (e refl)))))
 
   module _ (types : ℕ → ℕ → PacketType) where
     long_stands : (steer rest : ℕ) (versions : List ℕ) → Stands (long_at types steer rest s versions)
@@ -133,10 +138,15 @@ module _ (s : List ℕ) where
     pub header_stands : (local : ℕ) (versions : List ℕ) (grease : Bool) → Stands (header_by types s local versions grease)
     unfolding header_by first_at outside
     header_stands local versions grease =
-        if_all Stands _ _ _ (λ b. refuse_stands 14 (λ z. omega (arith, z)) (λ z. omega (arith, z))) (λ b.
-        then_all Stands (fixed_at 1 s 0) _ _ (λ e. refuse_stands 1 (λ z. omega (arith, z)) (λ z. omega (arith, z))) (λ first n e.
-        if_all Stands _ _ _ (λ c. refuse_stands 2 (λ z. omega (arith, z)) (λ z. omega (arith, z))) (λ c.
-        if_all Stands _ _ _ (λ d. short_stands _ local (within_local b)) (λ d. long_stands _ _ versions))))
+        let by : ℕ → Outcome = λ first. first_at types first s local versions grease in
+        let read : Outcome = and_then (fixed_at 1 s 0) (refused_header 1) (λ first n. by first) in
+        if_all Stands (outside s local versions) (refused_header 14) read (λ b. refuse_stands 14 (λ z. omega (arith, z)) (λ z. omega (arith, z))) (λ b.
+        then_all Stands (fixed_at 1 s 0) (refused_header 1) (λ first n. by first) (λ e. refuse_stands 1 (λ z. omega (arith, z)) (λ z. omega (arith, z))) (λ first n e.
+        let brief : Outcome = short_at (first / spin_bit) s local in
+        let longer : Outcome = long_at types (first / 16) (first % 16) s versions in
+        if_all Stands (unfixed first grease) (refused_header 2) (if ltb first long_header_form then brief else longer)
+        (λ c. refuse_stands 2 (λ z. omega (arith, z)) (λ z. omega (arith, z))) (λ c.
+        if_all Stands (ltb first long_header_form) brief longer (λ d. short_stands (first / spin_bit) local (within_local b)) (λ d. long_stands (first / 16) (first % 16) versions))))
       where
         within_local : outside s local versions ≡ false → local ≤ 20
         within_local = go (ltb 65527 (length s)) (ltb 20 local) refl

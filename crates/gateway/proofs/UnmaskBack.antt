@@ -1,5 +1,5 @@
 -- The records of sample_place and unmask give back what `protect` says.
-use Rattle.std.specs.Prelude.{if◌then◌else◌}
+use Rattle.std.specs.Prelude.{◌/◌, eqb, ltb, if◌then◌else◌}
 use Prim.Native.Nat.{ℕ, ◌+◌, ◌≤◌}
 use mathlib.Core.Path.{◌≡◌, refl, ap}
 use mathlib.Core.List.{List}
@@ -9,15 +9,17 @@ use native.Mathlib.Omega.{arith}
 use lib.ListN.{length}
 use lib.Dec.{leb}
 use borrow.Author.Tests.{le-ltb, le-leb, leb-true, ne_eqb}
-use Rattle.coding.specs.Words.{Answer, no, ok}
+use Rattle.coding.specs.Words.{Answer, no, ok, max_datagram}
 use Rattle.coding.specs.Bytes.{byte_at}
 use Rattle.coding.specs.declared.Place.{Place}
 use Rattle.coding.proofs.Rules.{if_all}
 use Rattle.coding.proofs.Numbers.{Refuses, fourteen}
+use Rattle.shared.specs.FirstByte.{long_header_form}
 use Rattle.packet.specs.Said.{space_of}
 use Rattle.packet.specs.Header.{initial, zero_rtt, handshake, retry, short, negotiate, kind_of, is_long, space_in}
 use Rattle.number.specs.Cutting.{tag_length}
-use Rattle.protect.specs.Tests.{in_size}
+use Rattle.protect.specs.Tests.{in_size, has_sample, form_bit}
+use Rattle.protect.specs.Protection.{removed}
 use Rattle.protect.specs.Steps.{read_off, sample_at, opened_by, open_at, finish_at, finished, header_place, payload_place}
 use Rattle.protect.specs.Steps as opened
 use Rattle.gateway_frame.specs.Spans.{place_back}
@@ -56,9 +58,13 @@ sample_some start = refl
 sample_said : (numbered : Bool) (s : List ℕ) (at : ℕ) → SampleBack (sample_at numbered s at)
 unfolding sample_at in_size
 sample_said numbered s at =
-    if_all SampleBack _ _ _ (λ _. sample_no 14 fourteen) (λ _.
-    if_all SampleBack _ _ _
-    (λ _. if_all SampleBack _ _ _ (λ _. sample_no 14 fourteen) (λ _. if_all SampleBack _ _ _ (λ _. sample_some _) (λ _. sample_no 8 (λ z. omega (arith, z)))))
+    let sample : Answer (Option Place) = ok (some (record { start = at + 4; len = 16 })) in
+    let room : Answer (Option Place) = if has_sample (length s) at then sample else no 8 in
+    let there : Answer (Option Place) = if eqb at 0 then no 14 else room in
+    if_all SampleBack (ltb max_datagram (length s)) (no 14) (if numbered then there else ok none) (λ _. sample_no 14 fourteen) (λ _.
+    if_all SampleBack numbered there (ok none)
+    (λ _. if_all SampleBack (eqb at 0) (no 14) room (λ _. sample_no 14 fourteen) (λ _.
+    if_all SampleBack (has_sample (length s) at) sample (no 8) (λ _. sample_some (at + 4)) (λ _. sample_no 8 (λ z. omega (arith, z)))))
     (λ _. sample_none))
 
 pub sample_back_law : SampleGivesBack
@@ -75,14 +81,17 @@ module _ (is_long : Bool) (s : List ℕ) (at : ℕ) (mask : List ℕ) where
   open_roomy : Roomy (open_at is_long s at mask)
   unfolding open_at
   open_roomy =
-      if_all Roomy _ _ _ (λ _. fourteen) (λ _.
-      if_all Roomy _ _ _ (λ room.
-      if_all Roomy _ _ _ (λ _. leb-true _ _ room) (λ _. fourteen))
+      let form : Bool = eqb (byte_at s 0 / long_header_form) (form_bit is_long) in
+      let opened : Answer (List ℕ) = ok (removed is_long mask at s) in
+      let sampled : Answer (List ℕ) = if has_sample (length s) at then (if form then opened else no 14) else no 8 in
+      if_all Roomy (eqb at 0) (no 14) sampled (λ _. fourteen) (λ _.
+      if_all Roomy (has_sample (length s) at) (if form then opened else no 14) (no 8) (λ room.
+      if_all Roomy form opened (no 14) (λ _. leb-true _ _ room) (λ _. fourteen))
       (λ _ z. omega (arith, z)))
 
   size_roomy : (a : Answer (List ℕ)) → Roomy a → Roomy (in_size s a)
   unfolding in_size
-  size_roomy a h = if_all Roomy _ _ _ (λ _. fourteen) (λ _. h)
+  size_roomy a h = if_all Roomy (ltb max_datagram (length s)) (no 14) a (λ _. fourteen) (λ _. h)
 
   finish_roomy : Roomy (finish_at true is_long s at mask)
   unfolding finish_at
@@ -90,7 +99,7 @@ module _ (is_long : Bool) (s : List ℕ) (at : ℕ) (mask : List ℕ) where
 
   size_refuses : (a : Answer (List ℕ)) → Refuses a → Refuses (in_size s a)
   unfolding in_size
-  size_refuses a h = if_all (Refuses {A = List ℕ}) _ _ _ (λ _. fourteen) (λ _. h)
+  size_refuses a h = if_all (Refuses {A = List ℕ}) (ltb max_datagram (length s)) (no 14) a (λ _. fourteen) (λ _. h)
 
   bare_refuses : Refuses (finish_at false is_long s at mask)
   unfolding finish_at

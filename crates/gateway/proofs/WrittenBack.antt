@@ -24,7 +24,7 @@ use Rattle.packet.specs.Split.{cut_at}
 use Rattle.packet.specs.Walk.{packet, PacketStep, met_on, step_on, packet_step_at}
 use Rattle.packet.specs.TypeBits.{type_of, bits_of}
 use Rattle.packet.proofs.Types.{tables}
-use Rattle.packet_out.specs.Encoding.{Plain, initial, plain_number, number_len_in, shape_by, length_bytes, number_field, written_header, placeholder, partial_of}
+use Rattle.packet_out.specs.Encoding.{Plain, initial, zero_rtt, handshake, retry, short, negotiate, plain_number, number_len_in, shape_by, length_bytes, number_field, written_header, placeholder, partial_of}
 use Rattle.packet_out.specs.Length.{length_field}
 use Rattle.packet_out.specs.Back.{kind_read, version_read, src_read, token_place, end_read, read_as, Readable, Typed}
 use Rattle.packet_out.specs.Before.{number_size, fits, header_with}
@@ -257,11 +257,15 @@ Small p = version_read p < 2 ^ 32
 version_given : (h : HeaderGiven) → h.version < 2 ^ 32 → Small (plain_for h)
 unfolding version_read
 version_given h l =
-    if_all Small _ _ _ (λ _. l) (λ _.
-    if_all Small _ _ _ (λ _. l) (λ _.
-    if_all Small _ _ _ (λ _. l) (λ _.
-    if_all Small _ _ _ (λ _. l) (λ _.
-    if_all Small _ _ _ (λ _. omega arith) (λ _. omega arith)))))
+    let c : CutNumber = record { 0 = h.number_len; 1 = h.number_value } in
+    let from4 : Plain = if eqb h.kind 4 then short (eqb h.spin 1) (eqb h.key_phase 1) c else negotiate h.random in
+    let from3 : Plain = if eqb h.kind 3 then retry h.version else from4 in
+    let from2 : Plain = if eqb h.kind 2 then handshake c h.version else from3 in
+    if_all Small (eqb h.kind 0) (initial c h.version) (if eqb h.kind 1 then zero_rtt c h.version else from2) (λ _. l) (λ _.
+    if_all Small (eqb h.kind 1) (zero_rtt c h.version) from2 (λ _. l) (λ _.
+    if_all Small (eqb h.kind 2) (handshake c h.version) from3 (λ _. l) (λ _.
+    if_all Small (eqb h.kind 3) (retry h.version) from4 (λ _. l) (λ _.
+    if_all Small (eqb h.kind 4) (short (eqb h.spin 1) (eqb h.key_phase 1) c) (negotiate h.random) (λ _. omega arith) (λ _. omega arith)))))
 
 pub written_back : WrittenIsRead
 written_back h dst src token payload old w new local versions grease u z v d a b = go (headers.given_outside h (length dst) (length src) (length token) (length payload)) refl
