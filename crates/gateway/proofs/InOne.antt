@@ -1,5 +1,4 @@
 -- A step in one of three spaces: the flags of that space come first; a reading that is done leaves the record as it came.
-use Rattle.std.specs.Prelude.{if◌then◌else◌}
 use Prim.Native.Nat.{ℕ}
 use mathlib.Core.Path.{◌≡◌}
 use mathlib.Core.Bool.{true, false}

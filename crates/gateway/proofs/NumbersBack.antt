@@ -1,6 +1,5 @@
 -- A step of the number ends over the surface is the call on the record of three itself: what it says and what it leaves are given back.
 -- Of the spaces that it does not name, nothing is looked at, and they come back as they came.
-use Rattle.std.specs.Prelude.{if◌then◌else◌}
 use Prim.Native.Nat.{ℕ}
 use mathlib.Core.Path.{◌≡◌, refl, ap, ◌∙◌}
 use mathlib.Core.Bool.{Bool, true, false}

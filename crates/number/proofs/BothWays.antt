@@ -1,6 +1,5 @@
 -- Runs of the model, so that it is not empty: for every length a packet that is read as it was sent, and one that is misread; at the
 -- ceiling one that is read as it was sent though it is not near; and an acknowledgement that shortens the next cut.
-use Rattle.std.specs.Prelude.{if◌then◌else◌}
 use Prim.Native.Nat.{ℕ, suc, ◌+◌, ◌-◌, ◌*◌, ◌/◌, ◌^◌, ◌≤◌, ◌<◌}
 use mathlib.Core.Path.{◌≡◌, refl, sym, ap, ◌∙◌}
 use mathlib.Core.List.Memᴰ

@@ -1,6 +1,5 @@
 -- On any line that invents nothing, a packet is read as it was sent exactly when the largest accepted number is near, where that
 -- number is low; from there on when it is near; and the model does what the letter says of its ends.
-use Rattle.std.specs.Prelude.{if◌then◌else◌}
 use Prim.Native.Nat.{ℕ, suc, ◌+◌, ◌-◌, ◌*◌, ◌%◌, ◌^◌, ◌≤◌, ◌<◌}
 use mathlib.Core.Path.{◌≡◌, refl, sym, ap, ◌∙◌}
 use mathlib.Core.List.Memᴰ

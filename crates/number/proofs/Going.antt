@@ -1,5 +1,4 @@
 -- Worlds that are reached: the sender goes on; a packet is accepted and heard of; numbers are sent, accepted and heard of one by one.
-use Rattle.std.specs.Prelude.{if◌then◌else◌}
 use Prim.Native.Nat.{ℕ, zero, suc, ◌+◌, ◌-◌, ◌*◌, ◌%◌, ◌^◌, ◌≤◌, ◌<◌}
 use mathlib.Core.Path.{◌≡◌, refl, sym, ap, ◌∙◌}
 use mathlib.Core.List.{Memᴰ}

@@ -1,4 +1,3 @@
-use Rattle.std.specs.Prelude.{if◌then◌else◌}
 use Rattle.coding.proofs.Rules.{tests}
 use Rattle.number.specs.Cutting.{bytes_for}
 use Rattle.number.proofs.width.Goals as goal

@@ -1,4 +1,3 @@
-use Rattle.std.specs.Prelude.{if◌then◌else◌}
 use Rattle.coding.proofs.Rules.{choices}
 use Rattle.packet_out.specs.Said.{written_long, plain_of}
 use Rattle.gateway.proofs.headers.header_of.Goals as goal

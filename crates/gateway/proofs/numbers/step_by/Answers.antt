@@ -1,4 +1,3 @@
-use Rattle.std.specs.Prelude.{if◌then◌else◌}
 use borrow.Author.Tests.{ne_eqb}
 use Rattle.spaces.specs.Calls.{within, lifted}
 use Rattle.gateway.proofs.numbers.step_by.Goals as goal

@@ -1,4 +1,3 @@
-use Rattle.std.specs.Prelude.{if◌then◌else◌}
 use borrow.Author.Tests.{lt-ltb, le-ltb}
 use Rattle.number.specs.Ends.{larger_of}
 use Rattle.number.specs.Said.{so_far_of}

@@ -1,4 +1,3 @@
-use Rattle.std.specs.Prelude.{if◌then◌else◌}
 use native.Mathlib.Omega.{arith}
 use borrow.Author.Tests.{eq-eqb, ne_eqb}
 use Rattle.packet.specs.TypeBits.{bits_one, bits_two, bits_of}

@@ -1,4 +1,3 @@
-use Rattle.std.specs.Prelude.{if◌then◌else◌}
 use borrow.Author.Tests.{ne_eqb}
 use Rattle.coding.proofs.Rules.{choices}
 use Rattle.packet.specs.TypeBits.{type_one, type_two, type_of}

@@ -1,4 +1,3 @@
-use Rattle.std.specs.Prelude.{if◌then◌else◌}
 use Rattle.shared.specs.Streams.{stream_made, stream_id}
 use Rattle.shared.specs.Said.{stream_of}
 use borrow.Author.Tests.{lt-ltb, le-ltb}
