@@ -6,12 +6,13 @@ use mathlib.Core.List.{List, [], ◌∷◌, ◌++◌, map}
 use Prim.Native.Nat.{ℕ, zero, suc, ◌+◌, ◌-◌, ◌≤◌, ◌<◌, ◌^◌}
 use native.Mathlib.Nat.{add-zero}
 use native.Mathlib.Omega.{arith}
-use lib.Dec.{leb}
+use lib.Dec.{ltb, leb}
 use lib.ListN.{length, drop, get_or, length-drop}
 use lib.Seq.{drop-drop}
 use borrow.Author.Tests.{le-ltb, le-leb, lt-leb, leb-true, leb-false}
-use Rattle.coding.specs.Words.{Got, cut, got, and_then, ok}
+use Rattle.coding.specs.Words.{Got, cut, got, and_then, ok, number_end, max_datagram}
 use Rattle.coding.specs.Places.{part_of}
+use Rattle.coding.specs.Varint.{var_at}
 use Rattle.coding.proofs.Laws.{part_in}
 use Rattle.coding.proofs.Shift.{further, var_behind}
 use Rattle.ack.specs.Scan.{scan_at, ranges_at}
@@ -20,6 +21,42 @@ use Rattle.ack.proofs.Laws.{Inside, scan_inside}
 use Rattle.ack.proofs.Ranges as stepped
 use Rattle.ack.proofs.Ranges.{part_length}
 use Rattle.ack_iter.specs.Iter.{reading, step_after}
+
+-- ---- the pieces of a step: what stands behind each test and each read of `ack_step`, the last first
+
+-- the block's range; `rest` is the largest number of the range to come
+abbrev ranged : ℕ → ℕ → ℕ → ℕ → Taken
+ranged largest block rest next = record { step = range (record { smallest = largest - block; largest = largest }); largest = rest; next = next }
+
+-- no byte is left
+abbrev ended : ℕ → ℕ → Taken
+ended at largest = record { step = end; largest = largest; next = at }
+
+module _ (s : List ℕ) (at largest : ℕ) where
+  module _ (block : ℕ) where
+    abbrev gap_fits : ℕ → ℕ → Taken
+    gap_fits gap next = if leb (length s) next then unmoved 10 at largest else ranged largest block (largest - block - (gap + 2)) next
+
+    abbrev after_gap : ℕ → ℕ → Taken
+    after_gap gap next = if ltb (largest - block) (gap + 2) then unmoved 12 at largest else gap_fits gap next
+
+    abbrev gap_read : ℕ → Taken
+    gap_read mid = and_then (var_at s mid) (unmoved 10 at largest) after_gap
+
+    abbrev block_fits : ℕ → Taken
+    block_fits mid = if leb (length s) mid then ranged largest block largest mid else gap_read mid
+
+    abbrev after_block : ℕ → Taken
+    after_block mid = if ltb largest block then unmoved 12 at largest else block_fits mid
+
+  abbrev block_read : Taken
+  block_read = and_then (var_at s at) (unmoved 10 at largest) after_block
+
+  abbrev in_numbers : Taken
+  in_numbers = if leb (length s) at then ended at largest else block_read
+
+  abbrev in_datagram : Taken
+  in_datagram = if leb number_end largest then unmoved 14 at largest else in_numbers
 
 -- ---- a step over what is left of a slice after k bytes, and one over the slice
 
@@ -52,6 +89,54 @@ module _ (s : List ℕ) (k : ℕ) where
       go true e = e ∙ sym (over n (leb-true _ _ e))
       go false e = e ∙ sym (within n (leb-false _ _ e))
 
+  -- each piece, k bytes further on
+  module _ (i largest : ℕ) where
+    module _ (block : ℕ) where
+      gap_fits_behind : (gap next : ℕ) → gap_fits s (k + i) largest block gap (k + next) ≡ later k (gap_fits (drop k s) i largest block gap next)
+      unfolding unmoved
+      gap_fits_behind gap next =
+          let rest : ℕ = largest - block - (gap + 2) in
+          if_later k (leb (length s) (k + next)) (leb (length (drop k s)) next) (unmoved 10 (k + i) largest) (ranged largest block rest (k + next))
+          (unmoved 10 i largest) (ranged largest block rest next) (leb_behind next) refl refl
+
+      gap_behind : (gap next : ℕ) → after_gap s (k + i) largest block gap (k + next) ≡ later k (after_gap (drop k s) i largest block gap next)
+      unfolding unmoved
+      gap_behind gap next =
+          let below : Bool = ltb (largest - block) (gap + 2) in
+          if_later k below below (unmoved 12 (k + i) largest) (gap_fits s (k + i) largest block gap (k + next))
+          (unmoved 12 i largest) (gap_fits (drop k s) i largest block gap next) refl refl (gap_fits_behind gap next)
+
+      gap_read_behind : (mid : ℕ) → gap_read s (k + i) largest block (k + mid) ≡ later k (gap_read (drop k s) i largest block mid)
+      unfolding unmoved
+      gap_read_behind mid = then_later k _ _ _ _ _ _ (var_behind s k mid) refl gap_behind
+
+      block_fits_behind : (mid : ℕ) → block_fits s (k + i) largest block (k + mid) ≡ later k (block_fits (drop k s) i largest block mid)
+      block_fits_behind mid =
+          if_later k (leb (length s) (k + mid)) (leb (length (drop k s)) mid) (ranged largest block largest (k + mid))
+          (gap_read s (k + i) largest block (k + mid)) (ranged largest block largest mid) (gap_read (drop k s) i largest block mid)
+          (leb_behind mid) refl (gap_read_behind mid)
+
+      block_behind : (mid : ℕ) → after_block s (k + i) largest block (k + mid) ≡ later k (after_block (drop k s) i largest block mid)
+      unfolding unmoved
+      block_behind mid =
+          if_later k (ltb largest block) (ltb largest block) (unmoved 12 (k + i) largest) (block_fits s (k + i) largest block (k + mid))
+          (unmoved 12 i largest) (block_fits (drop k s) i largest block mid) refl refl (block_fits_behind mid)
+
+    block_read_behind : block_read s (k + i) largest ≡ later k (block_read (drop k s) i largest)
+    unfolding unmoved
+    block_read_behind = then_later k _ _ _ _ _ _ (var_behind s k i) refl block_behind
+
+    numbers_behind : in_numbers s (k + i) largest ≡ later k (in_numbers (drop k s) i largest)
+    numbers_behind =
+        if_later k (leb (length s) (k + i)) (leb (length (drop k s)) i) (ended (k + i) largest) (block_read s (k + i) largest)
+        (ended i largest) (block_read (drop k s) i largest) (leb_behind i) refl block_read_behind
+
+    datagram_behind : in_datagram s (k + i) largest ≡ later k (in_datagram (drop k s) i largest)
+    unfolding unmoved
+    datagram_behind =
+        if_later k (leb number_end largest) (leb number_end largest) (unmoved 14 (k + i) largest) (in_numbers s (k + i) largest)
+        (unmoved 14 i largest) (in_numbers (drop k s) i largest) refl refl numbers_behind
+
   module _ (short : length s ≤ 65527) where
     few : length (drop k s) ≤ 65527
     few = rw size (omega arith)
@@ -59,15 +144,8 @@ module _ (s : List ℕ) (k : ℕ) where
     step_behind : (i largest : ℕ) → ack_step s (k + i) largest ≡ later k (ack_step (drop k s) i largest)
     unfolding ack_step unmoved
     step_behind i largest =
-        if_later k _ _ _ _ _ _ (le-ltb _ _ short ∙ sym (le-ltb _ _ few)) refl
-        (if_later k _ _ _ _ _ _ refl refl
-        (if_later k _ _ _ _ _ _ (leb_behind i) refl
-        (then_later k _ _ _ _ _ _ (var_behind s k i) refl (λ block mid.
-        if_later k _ _ _ _ _ _ refl refl
-        (if_later k _ _ _ _ _ _ (leb_behind mid) refl
-        (then_later k _ _ _ _ _ _ (var_behind s k mid) refl (λ gap next.
-        if_later k _ _ _ _ _ _ refl refl
-        (if_later k _ _ _ _ _ _ (leb_behind next) refl refl))))))))
+        if_later k (ltb max_datagram (length s)) (ltb max_datagram (length (drop k s))) (unmoved 14 (k + i) largest) (in_datagram s (k + i) largest)
+        (unmoved 14 i largest) (in_datagram (drop k s) i largest) (le-ltb _ _ short ∙ sym (le-ltb _ _ few)) refl (datagram_behind i largest)
 
 -- ---- and so all of them
 
