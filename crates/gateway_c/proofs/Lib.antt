@@ -1,0 +1,2 @@
+-- `Onces`: each exported function has only one answer.
+pub mod Onces
