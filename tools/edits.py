@@ -9,8 +9,11 @@ read a test; a fact that is stronger than the one that is asked for (11 ≤ v fo
 error is printed, and a person judges whether what is to be proved there is false.
 """
 import collections
+import hashlib
 import os
 import re
+import shutil
+import subprocess
 
 Edit = collections.namedtuple('Edit', 'says pairs')  # pairs: (file, old, new)
 
@@ -31,12 +34,18 @@ def parse(text):
     return Edit(' '.join(says), pairs)
 
 
+def texts(folder):
+    """The files of code, definitions and proofs below a folder; not what rt makes."""
+    for top, folders, names in os.walk(folder):
+        folders[:] = sorted(f for f in folders if f != 'out')
+        yield from (os.path.join(top, f) for f in sorted(names) if f.endswith(('.rt', '.antt')))
+
+
 def places(folder, file, old):
     """(file, place) of each `old` that a pair changes; ValueError where they are not as many as they must be."""
     files = [file]
     if file.endswith('/'):
-        below = os.walk(os.path.join(folder, file))
-        files = sorted(os.path.relpath(os.path.join(top, f), folder) for top, _, names in below for f in names if f.endswith(('.rt', '.antt')))
+        files = sorted(os.path.relpath(f, folder) for f in texts(os.path.join(folder, file)))
     elif not os.path.isfile(os.path.join(folder, file)):
         raise ValueError(f'there is no {file}')
     found = [(f, m.start()) for f in files for m in re.finditer(re.escape(old), open(os.path.join(folder, f)).read())] if old else []
@@ -51,18 +60,55 @@ def edited(folder, pairs):
     for file, old, new in pairs:
         for f, at in places(folder, file, old):
             cuts[f].append((at, at + len(old), new))
-    texts = {}
+    made = {}
     for f, changes in cuts.items():
         text, last = open(os.path.join(folder, f)).read(), None
         for at, end, new in sorted(changes, reverse=True):
             if last is not None and end > last:
                 raise ValueError(f'{f}: two edits overlap')
             text, last = text[:at] + new + text[end:], at
-        texts[f] = text
-    return texts
+        made[f] = text
+    return made
 
 
-SHORT = [(r'Prim\.Native\.Nat\.|lib\.(ListN|Dec|Seq)\.|mathlib\.Core\.\w+\.', ''), (r'Rattle·\w+·(proofs|specs)\.(proofs|specs)\.', '')]
+# ---- a copy of the repository, checked
+
+def crates():
+    """{crate: what it depends on} of this repository, in the order of crates.txt."""
+    lines = [re.sub(r'#.*', '', line).partition(':') for line in open('crates.txt')]
+    deps = {head.split()[0]: rest.split() for head, colon, rest in lines if colon}
+    return {c: [d for d in ds if d in deps] for c, ds in deps.items()}
+
+
+def copied(top, changed):
+    """The repository in the folder top, with these texts in place of its own. rt begins there with what it proved in other checkouts."""
+    shutil.copytree('crates', f'{top}/crates', ignore=shutil.ignore_patterns('out'))
+    shutil.copy('crates.txt', top)
+    for file, text in changed.items():
+        with open(f'{top}/{file}', 'w') as f:
+            f.write(text)
+
+
+def checked(top, crate):
+    """(exit status, what was printed) of a crate's check in a copy."""
+    run = subprocess.run(['rt', 'check', '--jobs', '1'], cwd=f'{top}/crates/{crate}', stdin=subprocess.DEVNULL, stdout=subprocess.PIPE, stderr=subprocess.STDOUT, text=True, errors='replace')
+    return run.returncode, run.stdout
+
+
+def stamp(crate, edit):
+    """A sum of what the check of a crate with an edit stands on."""
+    deps, below = crates(), [crate]
+    for c in below:
+        below += [d for d in deps.get(c, []) if d not in below]
+    found = hashlib.sha256(edit.encode())
+    for file in (file for c in sorted(below) for file in texts(f'crates/{c}')):
+        found.update(f'{file}\n{open(file).read()}\n'.encode())
+    return found.hexdigest()
+
+
+# ---- what a check says
+
+SHORT = [(r'Prim\.Native\.Nat\.|lib\.(ListN|Dec|Seq)\.|mathlib\.Core\.\w+\.', ''), (r'Rattle\.\w+\.(proofs|specs)\.', '')]
 
 
 def shorten(line, width):
@@ -74,9 +120,10 @@ def shorten(line, width):
 # What a first error says, as (pattern, in words, whether a fact is lost). The first pattern that is found counts.
 ERRORS = [
     (r'^\[', 'the code is no program', False),
-    (r'has no `Need-|has no field|missing field|expected type `tie\.|field\(s\)', 'the proof does not fit the code', False),
+    (r'has no `|has no field|missing field|expected type `goal\.|field\(s\)', 'the proof does not fit the code', False),
     (r'not in scope|no such name|no definition|is not a definition|does not exist', 'a name is not known', False),
-    (r'was not admitted|unsolved|Parse|expected a function|ResourceLimit|step limit', 'the proof is not read', False),
+    (r'was not admitted|unsolved|Parse|expected a function', 'the proof is not read', False),
+    (r'ran out of|outgrew the memory limit|stopped at the step limit|ResourceLimit', 'a limit of the prover is met', False),
     (r'no occurrence of', 'what is rewritten is not there', False),
     (r'^`omega`: .*does not follow from what it read', 'the numbers do not add up', True),
     (r'^`omega`', '`omega` does not tell', False),
@@ -85,18 +132,23 @@ ERRORS = [
     (r'differ only where one has (`[^`]*`)[^`]*and the other has (`[^`]*`)', r'expected \1, found \2', True),
     (r'differ only where one has', 'the two sides are not equal', True),
     (r'two types are (`[^`]*`) \(expected\) and (`[^`]*`) \(found\)', r'expected \1, found \2', True),
-    (r'asks for a part', 'it is not proved without a file any more', True),
+    (r'^it is not proved that', 'no proof is found', True),
     (r'two ends are equal|the two types|but this has type|BoundaryMismatch', 'the two sides are not equal', True),
 ]
+# an error that says only that a proof names what the edit took away; what is told after it counts
+NAMES = re.compile(r'has no field|is not in scope|has no `|was not admitted')
+TOLD = re.compile(r'(?m)^(?:note: )?(\S+?):\d+:\d+: (?:error(?:: `([^`]+)`:|:)?)?(.*(?:\n  .*)*)')
 
 
 def first_error(log):
-    """(file below the crate, declaration, message) of the first error in a check's output, or None."""
-    m = re.search(r'(?m)^(\S+?):\d+:\d+: error(?:: `([^`]+)`:|:)?(.*(?:\n  .*)*)', log)
-    if not m:  # a function that needs no file of its own, and now a part is left to prove
-        m = re.search(r'(?m)^help: write \S*?/(proofs/\S+/Proof\.antt) with these lines(?:.*\n)*?(?=.* = \?$)', log)
-        return m and (m[1], '', 'asks for a part')
-    return re.sub(r'.*?/((?:src|specs|proofs)/)', r'\1', m[1]), m[2] or '', m[3].strip()
+    """(file below the crate, declaration, message) of what a check's output says first, or None."""
+    told = [m for m in TOLD.finditer(log) if m[0].startswith('note: ') or ': error' in m[0].split('\n')[0]]
+    told = [m for m in told if 'proofs/' not in m[1] or not NAMES.search(m[3].split('\n')[0])] or told
+    if not told:
+        return None
+    file = re.sub(r'.*?(?:^|/)((?:src|specs|proofs)/)', r'\1', told[0][1])
+    function = re.search(r'(?m)^fn \w+::(\S+): not proved', log[told[0].end():])
+    return file, told[0][2] or (function[1] if function and file.startswith('src/') else ''), told[0][3].strip()
 
 
 def kind_of(message):
@@ -110,7 +162,12 @@ def kind_of(message):
     return 'not known: ' + message[:80], False
 
 
+def function_of(file, declaration):
+    """The function that an error stands in, or nothing: its folder of proofs/, or what a note of the code names."""
+    m = re.match(r'proofs/(.+)/(?:Answers|Invariants|Proof)\.antt$', file)
+    return '::'.join(m[1].split('/')) if m else declaration if file.startswith('src/') else ''
+
+
 def where_of(file, declaration):
-    """A function for what stands in its folder of proofs/, else the law or definition."""
-    m = re.match(r'proofs/(.+)/Proof\.antt$', file)
-    return '::'.join(m[1].split('/')) if m else f'`{declaration}`' if declaration else '-'
+    """That function, else the law or definition."""
+    return function_of(file, declaration) or (f'`{declaration}`' if declaration else '-')

@@ -2,7 +2,8 @@
 
 A declaration is `name : type` at the left edge of a file or of a module in it, with the clauses after it. It is cited by another
 declaration or list of its file, by a file that brings its name in and uses it, or by a contract in src/. Not looked at: the parts of
-records and data, proofs/FN/Proof.antt, whose names the check asks for, and lines `f-once`, which `proof once` holds to their functions.
+records and data, the answers and invariants below proofs/FN/, whose names the check asks for, and lines `f_once`, which `proof once` holds
+to their functions.
 A local name that is the same counts as a cite.
 """
 import collections
@@ -12,7 +13,8 @@ import re
 
 EDGE = re.compile(r'( *)(?:abbrev |unfoldable |opaque )?(?:pub )?(\S+) :(?=\s|$)')
 WORDS = re.compile(r'[\s(){},;.]+')
-MODULE = re.compile(r'Rattle·(\w+?)(?:·proofs|·specs)?\.(proofs|specs)\.(\S+)')
+MODULE = re.compile(r'Rattle\.(\w+)\.(proofs|specs)\.(\S+)')
+OF_FUNCTIONS = ('Answers.antt', 'Invariants.antt', 'Proof.antt')
 
 Declared = collections.namedtuple('Declared', 'file line name cited')
 
@@ -23,8 +25,8 @@ def plain(text):
 
 
 def uses(name, words):
-    """Whether a name stands among words; `if_then_else_` does where its parts do."""
-    return name in words or '_' in (name[0], name[-1]) and all(part in words for part in name.split('_') if part)
+    """Whether a name stands among words; `if◌then◌else◌` does where its parts do."""
+    return name in words or '◌' in name and all(part in words for part in name.split('◌') if part)
 
 
 def words_of(lines):
@@ -83,11 +85,11 @@ def declared():
     for f in glob.glob('crates/*/src/**/*.rt', recursive=True):
         contracts |= set(WORDS.split(re.sub(r'//[^\n]*', '', open(f).read())))
     for file, text in files.items():
-        if os.path.basename(file) == 'Proof.antt':
+        if os.path.basename(file) in OF_FUNCTIONS:
             continue
         lines = text.split('\n')
         for start, end, name in chunks(lines):
-            if not name.endswith('-once'):
+            if not re.search('_once(_of)?$', name):
                 there = uses(name, words_of(lines[:start] + lines[end:])) or '/specs/' in file and uses(name, contracts)
                 yield Declared(file, start + 1, name, there or (file, name) in cited)
 
