@@ -56,8 +56,8 @@ def quiet(command, **more):
 def library(folder):
     """The archive: the folder's, or as rt makes it."""
     if not folder:
-        tell('rt staticlib gateway, which proves what it has not proved yet')
-        quiet(['rt', 'staticlib', 'gateway'], cwd=ROOT)
+        tell('tools/build gateway, which proves what is not proved yet')
+        quiet([os.path.join(ROOT, 'tools/build'), 'gateway'])
         folder = os.path.join(ROOT, 'target/staticlib')
     path = os.path.join(os.path.abspath(folder), 'libgateway.a')
     if not os.path.exists(path):

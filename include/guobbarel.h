@@ -1,6 +1,6 @@
 /* Guobbarel over C: the packet layer of QUIC (RFC 9000, 9001, 9221, 9369) on lent bytes.
  *
- * Link target/staticlib/libgateway.a, which `rt staticlib gateway` writes. It needs no heap, no lock and no other library,
+ * Link target/staticlib/libgateway.a, which `tools/build gateway` writes. It needs no heap, no lock and no other library,
  * and keeps nothing between two calls, so any number of threads may call it.
  *
  * Every argument is checked, and every answer comes back by value. Its first field is the refusal (guobbarel_mask answers nothing

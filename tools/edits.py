@@ -135,20 +135,30 @@ ERRORS = [
     (r'^it is not proved that', 'no proof is found', True),
     (r'two ends are equal|the two types|but this has type|BoundaryMismatch', 'the two sides are not equal', True),
 ]
-# an error that says only that a proof names what the edit took away; what is told after it counts
-NAMES = re.compile(r'has no field|is not in scope|has no `|was not admitted')
+# a proof names what the edit took away; that, or what such a proof is cited for, counts only where nothing else is told
+GONE = re.compile(r'has no field|is not in scope|has no `')
+CITED = re.compile(r'was not admitted')
 TOLD = re.compile(r'(?m)^(?:note: )?(\S+?):\d+:\d+: (?:error(?:: `([^`]+)`:|:)?)?(.*(?:\n  .*)*)')
 
 
+def told(log):
+    """(file below the crate, declaration, message) of each error in a check's output, and of each note of what is not proved."""
+    for m in TOLD.finditer(log):
+        if m[0].startswith('note: ') or ': error' in m[0].split('\n')[0]:
+            file = re.sub(r'.*?(?:^|/)((?:src|specs|proofs)/)', r'\1', m[1])
+            function = re.search(r'(?m)^fn \w+::(\S+): not proved', log[m.end():])
+            yield file, m[2] or (function[1] if function and file.startswith('src/') else ''), m[3].strip()
+
+
+def gone(error):
+    """Whether an error says that a proof names what is not there."""
+    return error[0].startswith('proofs/') and bool(GONE.search(error[2].split('\n')[0]))
+
+
 def first_error(log):
-    """(file below the crate, declaration, message) of what a check's output says first, or None."""
-    told = [m for m in TOLD.finditer(log) if m[0].startswith('note: ') or ': error' in m[0].split('\n')[0]]
-    told = [m for m in told if 'proofs/' not in m[1] or not NAMES.search(m[3].split('\n')[0])] or told
-    if not told:
-        return None
-    file = re.sub(r'.*?(?:^|/)((?:src|specs|proofs)/)', r'\1', told[0][1])
-    function = re.search(r'(?m)^fn \w+::(\S+): not proved', log[told[0].end():])
-    return file, told[0][2] or (function[1] if function and file.startswith('src/') else ''), told[0][3].strip()
+    """The first of these that tells of the contract, else the first, or None."""
+    every = list(told(log))
+    return next((e for e in every if not (gone(e) or e[0].startswith('proofs/') and CITED.search(e[2].split('\n')[0]))), every[0] if every else None)
 
 
 def kind_of(message):

@@ -34,7 +34,8 @@ fn of_rattle() -> Layouts {
     let mut known = BTreeMap::new();
     let mut layouts = Layouts::new();
     for text in RATTLE {
-        for record in text.split("#[repr(C)]\npub struct ").skip(1) {
+        for record in text.split("#[repr(C)]\n").skip(1) {
+            let (_, record) = record.split_once("pub struct ").expect("a record is a struct");
             let (name, rest) = record.split_once(" {\n").expect("a struct has fields");
             let mut layout = Layout::default();
             let mut widest = 1;

@@ -32,7 +32,7 @@ class Ours:
     def __init__(self):
         library = os.path.abspath(os.environ.get('GUOBBAREL_LIB') or os.path.join(ROOT, 'target/staticlib'))
         if not os.path.exists(os.path.join(library, 'libgateway.a')):
-            fail(f'{library} has no libgateway.a: run rt staticlib gateway')
+            fail(f'{library} has no libgateway.a: run tools/build gateway')
         if not shutil.which('cargo'):
             fail('cargo is not installed')
         build = ['cargo', 'build', '--offline', '--release', '--quiet', '--example', 'lines']
