@@ -1,4 +1,4 @@
--- Only one answer, and only one content of a lent packet or buffer, meets the contract of each exported function.
+-- Only one answer, and only one content of a lent packet or buffer, meets the contract of each public function.
 use mathlib.Core.Path.{◌∙◌, sym}
 use mathlib.Core.List.{List}
 use Prim.Native.Nat.{ℕ}

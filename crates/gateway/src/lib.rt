@@ -1,4 +1,4 @@
-// The surface that the gateway's host links: seven functions on numbers and byte slices, each over a proved crate. Every
+// The surface that the gateway's host calls: seven functions on numbers and byte slices, each over a proved crate. Every
 // argument is checked; an answer is a record by value, its refusal first; a refusal changes no lent byte. `gateway_c` exports
 // them to C; include/guobbarel.h says the same to a C compiler, and what a caller owes.
 #![tactic(auto)]

@@ -19,16 +19,16 @@ returns-then-sequence-retire_prior_to c =
 
 pub returns-then-id-eq0 : goal.returns-then-id-eq0
 unfolding wrote_of new_cid_out
-returns-then-id-eq0 c = written_no _ (rw (le-ltb _ _ c.if-sequence-retire_prior_to.false, eq-eqb _ _ c.if-id-eq0.true))
+returns-then-id-eq0 c = written_no _ (rw (le-ltb c.args.sequence c.args.retire_prior_to (omega arith), eq-eqb _ _ c.if-id-eq0.true))
 
 pub returns-then-id-gt-MAX_CID_SIZE : goal.returns-then-id-gt-MAX_CID_SIZE
 unfolding wrote_of new_cid_out
 returns-then-id-gt-MAX_CID_SIZE c =
-    written_no _ (rw (le-ltb _ _ c.if-sequence-retire_prior_to.false, ne_eqb _ _ c.if-id-eq0.false, lt-ltb _ _ c.if-id-gt-MAX_CID_SIZE.true))
+    written_no _ (rw (le-ltb c.args.sequence c.args.retire_prior_to (omega arith), ne_eqb _ _ c.if-id-eq0.false, lt-ltb _ _ c.if-id-gt-MAX_CID_SIZE.true))
 
 pub returns : goal.returns
 returns c =
     let a = c.args in
     let all : length a.id.bytes ≡ 20 = search rules in
-    rw (cid_vals a.sequence a.retire_prior_to a.id a.reset_token.now c.if-sequence-retire_prior_to.false c.if-id-eq0.false c.if-id-gt-MAX_CID_SIZE.false (length_cid a.id (omega arith)))
+    rw (cid_vals a.sequence a.retire_prior_to a.id a.reset_token.now (omega arith) c.if-id-eq0.false c.if-id-gt-MAX_CID_SIZE.false (length_cid a.id (omega arith)))
     c.frame_with_id.ensures
