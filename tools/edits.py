@@ -137,7 +137,7 @@ ERRORS = [
 ]
 # a proof names what the edit took away; that, or what such a proof is cited for, counts only where nothing else is told
 GONE = re.compile(r'has no field|is not in scope|has no `')
-CITED = re.compile(r'was not admitted')
+CITED = re.compile(r'was not admitted|(was|were) not checked')
 TOLD = re.compile(r'(?m)^(?:note: )?(\S+?):\d+:\d+: (?:error(?:: `([^`]+)`:|:)?)?(.*(?:\n  .*)*)')
 
 
