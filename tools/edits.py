@@ -133,7 +133,7 @@ ERRORS = [
     (r'differ only where one has', 'the two sides are not equal', True),
     (r'two types are (`[^`]*`) \(expected\) and (`[^`]*`) \(found\)', r'expected \1, found \2', True),
     (r'^it is not proved that', 'no proof is found', True),
-    (r'two ends are equal|the two types|but this has type|BoundaryMismatch', 'the two sides are not equal', True),
+    (r'two ends are equal|the two types|the two sides first differ|but this has type|BoundaryMismatch', 'the two sides are not equal', True),
 ]
 # a proof names what the edit took away; that, or what such a proof is cited for, counts only where nothing else is told
 GONE = re.compile(r'has no field|is not in scope|has no `')
@@ -146,7 +146,7 @@ def told(log):
     for m in TOLD.finditer(log):
         if m[0].startswith('note: ') or ': error' in m[0].split('\n')[0]:
             file = re.sub(r'.*?(?:^|/)((?:src|specs|proofs)/)', r'\1', m[1])
-            function = re.search(r'(?m)^fn \w+::(\S+): not proved', log[m.end():])
+            function = re.search(r'(?m)^fn \w+::(\S+): (?:not proved$|no proof: expected)', log[m.end():])
             yield file, m[2] or (function[1] if function and file.startswith('src/') else ''), m[3].strip()
 
 
