@@ -91,7 +91,8 @@ def copied(top, changed):
 
 def checked(top, crate):
     """(exit status, what was printed) of a crate's check in a copy."""
-    run = subprocess.run(['rt', 'check', '--jobs', '1'], cwd=f'{top}/crates/{crate}', stdin=subprocess.DEVNULL, stdout=subprocess.PIPE, stderr=subprocess.STDOUT, text=True, errors='replace')
+    said = {'stdin': subprocess.DEVNULL, 'stdout': subprocess.PIPE, 'stderr': subprocess.STDOUT, 'text': True, 'errors': 'replace'}
+    run = subprocess.run(['rt', 'check', '--jobs', '1'], cwd=f'{top}/crates/{crate}', **said)
     return run.returncode, run.stdout
 
 
