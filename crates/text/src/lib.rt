@@ -26,9 +26,7 @@ fn put_digits(buf: &mut [u8], at: usize, n: usize, x: u64)
     ensures { buf.new ≡ splice buf.old at (decimal x) }
 {
     let mut v = x;
-    let mut i = n;
-    while 0 < i {
-        i -= 1;
+    for i in (0..n).rev() {
         buf[at + i] = b'0' + (v % 10) as u8;
         v = v / 10;
     }
@@ -39,10 +37,7 @@ pub fn put_decimal(buf: &mut [u8], at: usize, x: u64) -> usize
     ensures { Put (decimal x) buf.old at result buf.new }
 {
     let n = decimal_len(x);
-    if buf.len() < at {
-        return at;
-    }
-    if buf.len() - at < n {
+    if buf.len() < at || buf.len() - at < n {
         return at;
     }
     put_digits(buf, at, n, x);
@@ -53,28 +48,19 @@ fn hex_digit(d: u8) -> u8
     requires { d < 16 }
     ensures { result ≡ hex_digit d }
 {
-    if d < 10 {
-        return 0x30 + d;
-    }
-    0x57 + d
+    if d < 10 { b'0' + d } else { b'a' + (d - 10) }
 }
 
 // Puts bytes in hex.
 pub fn put_hex(buf: &mut [u8], at: usize, bytes: &[u8]) -> usize
     ensures { Put (hex_of bytes.now) buf.old at result buf.new }
 {
-    if buf.len() < at {
-        return at;
-    }
-    if (buf.len() - at) / 2 < bytes.len() {
+    if buf.len() < at || (buf.len() - at) / 2 < bytes.len() {
         return at;
     }
     let mut p = at;
-    let mut i = 0;
-    while i < bytes.len() {
-        let b = bytes[i];
+    for b in bytes {
         p = coding::put_slice(buf, p, &[hex_digit(b / 16), hex_digit(b % 16)]);
-        i += 1;
     }
     p
 }
@@ -83,7 +69,7 @@ pub fn put_hex(buf: &mut [u8], at: usize, bytes: &[u8]) -> usize
 pub fn put_hex_or(buf: &mut [u8], at: usize, bytes: &[u8], none: &[u8]) -> usize
     ensures { Put (hex_or none.now bytes.now) buf.old at result buf.new }
 {
-    if bytes.len() == 0 {
+    if bytes.is_empty() {
         return coding::put_slice(buf, at, none);
     }
     put_hex(buf, at, bytes)

@@ -2,14 +2,8 @@ use native.Mathlib.Omega.{arith}
 use Rattle.text.proofs.Laws.{length_one, length_more, length_u64, decimal_some}
 use Rattle.text.proofs.decimal_len.Goals as goal
 
-pub loop-v-init : goal.loop-v-init
-loop-v-init c = omega arith
-
 pub overflow_add-n : goal.overflow_add-n
 overflow_add-n c = omega (arith, decimal_some c.loop-v.v, length_u64 c.args.x (omega arith))
-
-pub loop-v-smaller : goal.loop-v-smaller
-loop-v-smaller c = omega arith
 
 pub loop-v-preserved : goal.loop-v-preserved
 loop-v-preserved c = omega (arith, length_more c.loop-v.v (omega arith))
