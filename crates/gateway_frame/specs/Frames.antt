@@ -34,17 +34,18 @@ abbrev pub other_values : List FrameValue → List FrameValue
 other_values [] = []
 other_values (v ∷ vs) = vs
 
+-- the first six
+abbrev pub six_of : List FrameValue → List FrameValue
+six_of vs =
+    first_value vs
+    ∷ first_value (other_values vs)
+    ∷ first_value (other_values (other_values vs))
+    ∷ first_value (other_values (other_values (other_values vs)))
+    ∷ first_value (other_values (other_values (other_values (other_values vs))))
+    ∷ first_value (other_values (other_values (other_values (other_values (other_values vs))))) ∷ []
+
 abbrev pub frame_row_with : ℕ → List FrameValue → FrameRow
-frame_row_with name vs =
-    record {
-      name = name;
-      value0 = first_value vs;
-      value1 = first_value (other_values vs);
-      value2 = first_value (other_values (other_values vs));
-      value3 = first_value (other_values (other_values (other_values vs)));
-      value4 = first_value (other_values (other_values (other_values (other_values vs))));
-      value5 = first_value (other_values (other_values (other_values (other_values (other_values vs)))));
-    }
+frame_row_with name vs = record { name = name; values = six_of vs }
 
 abbrev pub frame_row_of : Said → FrameRow
 frame_row_of (said name vs) = frame_row_with name (values_of vs)
@@ -60,12 +61,12 @@ found_record start t row next =
       next = next;
       frame_type = t;
       name = row.name;
-      value0 = row.value0;
-      value1 = row.value1;
-      value2 = row.value2;
-      value3 = row.value3;
-      value4 = row.value4;
-      value5 = row.value5;
+      value0 = first_value row.values;
+      value1 = first_value (other_values row.values);
+      value2 = first_value (other_values (other_values row.values));
+      value3 = first_value (other_values (other_values (other_values row.values)));
+      value4 = first_value (other_values (other_values (other_values (other_values row.values))));
+      value5 = first_value (other_values (other_values (other_values (other_values (other_values row.values)))));
     }
 
 -- an answer without values

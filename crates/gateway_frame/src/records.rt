@@ -17,6 +17,14 @@ pub struct FrameValue {
     pub place: Span,
 }
 
+impl FrameValue {
+    pub(crate) const NOTHING: FrameValue = FrameValue {
+        kind: 0,
+        number: 0,
+        place: Span { start: 0, len: 0 },
+    };
+}
+
 // A frame of a payload. Its refusal comes first: 0 for none, else document 01's number.
 #[repr(C)]
 #[derive(Clone, Copy)]
@@ -34,4 +42,29 @@ pub struct FrameAnswer {
     pub value3: FrameValue,
     pub value4: FrameValue,
     pub value5: FrameValue,
+}
+
+impl FrameAnswer {
+    pub(crate) const NOTHING: FrameAnswer = FrameAnswer {
+        refusal: 0,
+        found: 0,
+        has_type: 0,
+        start: 0,
+        next: 0,
+        frame_type: 0,
+        name: 0,
+        value0: FrameValue::NOTHING,
+        value1: FrameValue::NOTHING,
+        value2: FrameValue::NOTHING,
+        value3: FrameValue::NOTHING,
+        value4: FrameValue::NOTHING,
+        value5: FrameValue::NOTHING,
+    };
+
+    // PADDING but its places.
+    pub(crate) const PADDING: FrameAnswer = FrameAnswer {
+        found: 1,
+        has_type: 1,
+        ..FrameAnswer::NOTHING
+    };
 }

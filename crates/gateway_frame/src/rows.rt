@@ -1,9 +1,8 @@
 // A frame's name, and its values in the order of its row in the table of frames.
-ghost use Rattle.std.specs.Prelude.{◌≡◌, [], ◌∷◌};
-ghost use Rattle.frame.specs.Format.{num, place, said};
-ghost use Rattle.frame.specs.Table.{flag};
+ghost use Rattle.std.specs.Prelude.{◌≡◌, ◌≤◌, length};
+ghost use Rattle.frame.specs.Format.{num, place};
 ghost use Rattle.frame.specs.Said.{type_value, close_said, frame_said};
-ghost use Rattle.gateway_frame.specs.Frames.{no_value, value_of, frame_row_with, frame_row_of};
+ghost use Rattle.gateway_frame.specs.Frames.{value_of, frame_row_with, frame_row_of};
 
 use crate::records::{FrameValue, Span};
 use coding::Place;
@@ -19,178 +18,101 @@ const DATAGRAM: u64 = 0x30;
 #[derive(Clone, Copy)]
 pub(crate) struct FrameRow {
     pub(crate) name: u64,
-    pub(crate) value0: FrameValue,
-    pub(crate) value1: FrameValue,
-    pub(crate) value2: FrameValue,
-    pub(crate) value3: FrameValue,
-    pub(crate) value4: FrameValue,
-    pub(crate) value5: FrameValue,
+    pub(crate) values: [FrameValue; 6],
 }
 
-// What a value of a row is: nothing, a number, a place; a bool as a number.
-pub(crate) fn nothing() -> FrameValue
-    ensures { result ≡ no_value }
-{
-    FrameValue {
-        kind: 0,
-        number: 0,
-        place: Span { start: 0, len: 0 },
+impl From<u64> for FrameValue {
+    ghost from_gives = { λ n v. v ≡ value_of (num n) };
+
+    fn from(n: u64) -> FrameValue {
+        FrameValue {
+            kind: 1,
+            number: n,
+            place: Span { start: 0, len: 0 },
+        }
     }
 }
 
-fn number(n: u64) -> FrameValue
-    ensures { result ≡ value_of (num n) }
-{
-    FrameValue {
-        kind: 1,
-        number: n,
-        place: Span { start: 0, len: 0 },
-    }
-}
+impl From<Place> for FrameValue {
+    ghost from_gives = { λ p v. v ≡ value_of (place p) };
 
-fn part(p: Place) -> FrameValue
-    ensures { result ≡ value_of (place p) }
-{
-    FrameValue {
-        kind: 2,
-        number: 0,
-        place: Span {
-            start: p.start,
-            len: p.len,
-        },
+    fn from(p: Place) -> FrameValue {
+        let Place { start, len } = p;
+        FrameValue {
+            kind: 2,
+            number: 0,
+            place: Span { start, len },
+        }
     }
-}
-
-fn bit(b: bool) -> u64
-    ensures { result ≡ flag b }
-{
-    if b { 1 } else { 0 }
 }
 
 fn type_value(ty: TypeRead) -> FrameValue
     ensures { result ≡ value_of (type_value ty) }
 {
     match ty {
-        TypeRead::Type(t) => number(t.0),
-        TypeRead::Nothing => nothing(),
+        TypeRead::Type(t) => FrameValue::from(t.0),
+        TypeRead::Nothing => FrameValue::NOTHING,
     }
 }
 
-// Rows of up to four values.
-fn row4(name: u64, a: FrameValue, b: FrameValue, c: FrameValue, d: FrameValue) -> FrameRow
-    ensures { result ≡ frame_row_with name (a ∷ b ∷ c ∷ d ∷ []) }
+// A row of up to six values.
+fn row(name: u64, values: &[FrameValue]) -> FrameRow
+    requires { length values.now ≤ 6 }
+    ensures { result ≡ frame_row_with name values.now }
 {
-    FrameRow {
-        name,
-        value0: a,
-        value1: b,
-        value2: c,
-        value3: d,
-        value4: nothing(),
-        value5: nothing(),
-    }
-}
-
-fn row3(name: u64, a: FrameValue, b: FrameValue, c: FrameValue) -> FrameRow
-    ensures { result ≡ frame_row_with name (a ∷ b ∷ c ∷ []) }
-{
-    row4(name, a, b, c, nothing())
-}
-
-fn row2(name: u64, a: FrameValue, b: FrameValue) -> FrameRow
-    ensures { result ≡ frame_row_with name (a ∷ b ∷ []) }
-{
-    row3(name, a, b, nothing())
-}
-
-fn row1(name: u64, a: FrameValue) -> FrameRow
-    ensures { result ≡ frame_row_with name (a ∷ []) }
-{
-    row2(name, a, nothing())
-}
-
-fn row0(name: u64) -> FrameRow
-    ensures { result ≡ frame_row_with name [] }
-{
-    row1(name, nothing())
-}
-
-// Rows of numbers alone.
-fn numbers1(name: u64, a: u64) -> FrameRow
-    ensures { result ≡ frame_row_of (said name (num a ∷ [])) }
-{
-    row1(name, number(a))
-}
-
-fn numbers2(name: u64, a: u64, b: u64) -> FrameRow
-    ensures { result ≡ frame_row_of (said name (num a ∷ num b ∷ [])) }
-{
-    row2(name, number(a), number(b))
-}
-
-fn numbers3(name: u64, a: u64, b: u64, c: u64) -> FrameRow
-    ensures { result ≡ frame_row_of (said name (num a ∷ num b ∷ num c ∷ [])) }
-{
-    row3(name, number(a), number(b), number(c))
-}
-
-fn numbers4(name: u64, a: u64, b: u64, c: u64, d: u64) -> FrameRow
-    ensures { result ≡ frame_row_of (said name (num a ∷ num b ∷ num c ∷ num d ∷ [])) }
-{
-    row4(name, number(a), number(b), number(c), number(d))
-}
-
-// A number, and a place after it.
-fn number_part(name: u64, n: u64, p: Place) -> FrameRow
-    ensures { result ≡ frame_row_of (said name (num n ∷ place p ∷ [])) }
-{
-    row2(name, number(n), part(p))
+    let mut all = [FrameValue::NOTHING; 6];
+    all[..values.len()].copy_from_slice(values);
+    FrameRow { name, values: all }
 }
 
 fn ack_row(x: Ack) -> FrameRow
     ensures { result ≡ frame_row_of (frame_said (Frame.Ack x)) }
 {
-    let ecn = x.ecn;
-    let largest = number(x.largest.0);
-    let delay = number(x.delay);
-    let blocks = part(x.additional);
-    match ecn {
-        AckEcn::Nothing => row3(FrameType::ACK.0, largest, delay, blocks),
-        AckEcn::Counts(counts) => FrameRow {
-            name: FrameType::ACK.0,
-            value0: largest,
-            value1: delay,
-            value2: blocks,
-            value3: number(counts.ect0),
-            value4: number(counts.ect1),
-            value5: number(counts.ce),
-        },
+    let largest = x.largest.0.into();
+    let delay = x.delay.into();
+    let blocks = x.additional.into();
+    match x.ecn {
+        AckEcn::Nothing => row(FrameType::ACK.0, &[largest, delay, blocks]),
+        AckEcn::Counts(n) => row(
+            FrameType::ACK.0,
+            &[
+                largest,
+                delay,
+                blocks,
+                n.ect0.into(),
+                n.ect1.into(),
+                n.ce.into(),
+            ],
+        ),
     }
 }
 
 fn stream_row(x: Stream) -> FrameRow
     ensures { result ≡ frame_row_of (frame_said (Frame.Stream x)) }
 {
-    FrameRow {
-        name: STREAM,
-        value0: number(x.id.0),
-        value1: number(x.offset),
-        value2: number(bit(x.fin)),
-        value3: number(bit(x.len)),
-        value4: part(x.data),
-        value5: nothing(),
-    }
+    row(
+        STREAM,
+        &[
+            x.id.0.into(),
+            x.offset.into(),
+            u64::from(x.fin).into(),
+            u64::from(x.len).into(),
+            x.data.into(),
+        ],
+    )
 }
 
 fn new_cid_row(x: NewConnectionId) -> FrameRow
     ensures { result ≡ frame_row_of (frame_said (Frame.NewConnectionId x)) }
 {
-    row4(
+    row(
         FrameType::NEW_CONNECTION_ID.0,
-        number(x.sequence),
-        number(x.retire_prior_to),
-        part(x.id),
-        part(x.reset_token),
+        &[
+            x.sequence.into(),
+            x.retire_prior_to.into(),
+            x.id.into(),
+            x.reset_token.into(),
+        ],
     )
 }
 
@@ -198,19 +120,17 @@ fn close_row(x: Close) -> FrameRow
     ensures { result ≡ frame_row_of (close_said x) }
 {
     match x {
-        Close::Connection(c) => {
-            let ty = c.frame_type;
-            row3(
-                FrameType::CONNECTION_CLOSE.0,
-                number(c.error_code),
-                type_value(ty),
-                part(c.reason),
-            )
-        }
-        Close::Application(c) => number_part(
+        Close::Connection(c) => row(
+            FrameType::CONNECTION_CLOSE.0,
+            &[
+                c.error_code.into(),
+                type_value(c.frame_type),
+                c.reason.into(),
+            ],
+        ),
+        Close::Application(c) => row(
             FrameType::APPLICATION_CLOSE.0,
-            c.error_code,
-            c.reason,
+            &[c.error_code.into(), c.reason.into()],
         ),
     }
 }
@@ -220,54 +140,57 @@ pub(crate) fn row_of(frame: Frame) -> FrameRow
     ensures { result ≡ frame_row_of (frame_said frame) }
 {
     match frame {
-        Frame::Padding => row0(FrameType::PADDING.0),
-        Frame::Ping => row0(FrameType::PING.0),
+        Frame::Padding => row(FrameType::PADDING.0, &[]),
+        Frame::Ping => row(FrameType::PING.0, &[]),
         Frame::Ack(x) => ack_row(x),
-        Frame::ResetStream(x) => numbers3(
+        Frame::ResetStream(x) => row(
             FrameType::RESET_STREAM.0,
-            x.id.0,
-            x.error_code,
-            x.final_offset,
+            &[x.id.0.into(), x.error_code.into(), x.final_offset.into()],
         ),
-        Frame::StopSending(x) => numbers2(FrameType::STOP_SENDING.0, x.id.0, x.error_code),
-        Frame::Crypto(x) => number_part(FrameType::CRYPTO.0, x.offset, x.data),
-        Frame::NewToken(x) => row1(FrameType::NEW_TOKEN.0, part(x.token)),
+        Frame::StopSending(x) => row(
+            FrameType::STOP_SENDING.0,
+            &[x.id.0.into(), x.error_code.into()],
+        ),
+        Frame::Crypto(x) => row(FrameType::CRYPTO.0, &[x.offset.into(), x.data.into()]),
+        Frame::NewToken(x) => row(FrameType::NEW_TOKEN.0, &[x.token.into()]),
         Frame::Stream(x) => stream_row(x),
-        Frame::MaxData(n) => numbers1(FrameType::MAX_DATA.0, n),
-        Frame::MaxStreamData { id, offset } => numbers2(FrameType::MAX_STREAM_DATA.0, id.0, offset),
-        Frame::MaxStreams { dir, count } => numbers2(
+        Frame::MaxData(n) => row(FrameType::MAX_DATA.0, &[n.into()]),
+        Frame::MaxStreamData { id, offset } => row(
+            FrameType::MAX_STREAM_DATA.0,
+            &[id.0.into(), offset.into()],
+        ),
+        Frame::MaxStreams { dir, count } => row(
             FrameType::MAX_STREAMS_BIDI.0,
-            dir.bit(),
-            count,
+            &[dir.bit().into(), count.into()],
         ),
-        Frame::DataBlocked { offset } => numbers1(FrameType::DATA_BLOCKED.0, offset),
-        Frame::StreamDataBlocked { id, offset } => numbers2(
+        Frame::DataBlocked { offset } => row(FrameType::DATA_BLOCKED.0, &[offset.into()]),
+        Frame::StreamDataBlocked { id, offset } => row(
             FrameType::STREAM_DATA_BLOCKED.0,
-            id.0,
-            offset,
+            &[id.0.into(), offset.into()],
         ),
-        Frame::StreamsBlocked { dir, limit } => numbers2(
+        Frame::StreamsBlocked { dir, limit } => row(
             FrameType::STREAMS_BLOCKED_BIDI.0,
-            dir.bit(),
-            limit,
+            &[dir.bit().into(), limit.into()],
         ),
         Frame::NewConnectionId(x) => new_cid_row(x),
-        Frame::RetireConnectionId { sequence } => numbers1(
+        Frame::RetireConnectionId { sequence } => row(
             FrameType::RETIRE_CONNECTION_ID.0,
-            sequence,
+            &[sequence.into()],
         ),
-        Frame::PathChallenge(n) => numbers1(FrameType::PATH_CHALLENGE.0, n),
-        Frame::PathResponse(n) => numbers1(FrameType::PATH_RESPONSE.0, n),
+        Frame::PathChallenge(n) => row(FrameType::PATH_CHALLENGE.0, &[n.into()]),
+        Frame::PathResponse(n) => row(FrameType::PATH_RESPONSE.0, &[n.into()]),
         Frame::Close(x) => close_row(x),
-        Frame::Datagram(x) => number_part(DATAGRAM, bit(x.len), x.data),
-        Frame::AckFrequency(x) => numbers4(
+        Frame::Datagram(x) => row(DATAGRAM, &[u64::from(x.len).into(), x.data.into()]),
+        Frame::AckFrequency(x) => row(
             FrameType::ACK_FREQUENCY.0,
-            x.sequence,
-            x.ack_eliciting_threshold,
-            x.request_max_ack_delay,
-            x.reordering_threshold,
+            &[
+                x.sequence.into(),
+                x.ack_eliciting_threshold.into(),
+                x.request_max_ack_delay.into(),
+                x.reordering_threshold.into(),
+            ],
         ),
-        Frame::ImmediateAck => row0(FrameType::IMMEDIATE_ACK.0),
-        Frame::HandshakeDone => row0(FrameType::HANDSHAKE_DONE.0),
+        Frame::ImmediateAck => row(FrameType::IMMEDIATE_ACK.0, &[]),
+        Frame::HandshakeDone => row(FrameType::HANDSHAKE_DONE.0, &[]),
     }
 }

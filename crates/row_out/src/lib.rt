@@ -14,16 +14,14 @@ pub fn vars_len(vals: &[u64]) -> Sized
     ensures { sized_of result ≡ length_of (vars_out vals.now []) }
 {
     let mut n = 0;
-    let mut i = 0;
-    while i < vals.len() {
-        let Sized::Bytes(k) = VarInt(vals[i]).size() else {
+    for x in vals {
+        let Sized::Bytes(k) = VarInt(*x).size() else {
             return Sized::Refused(Refusal::Argument);
         };
-        if MAX_DATAGRAM < n + k {
+        n += k;
+        if MAX_DATAGRAM < n {
             return Sized::Refused(Refusal::Argument);
         }
-        n += k;
-        i += 1;
     }
     Sized::Bytes(n)
 }
@@ -34,10 +32,8 @@ fn put_each(buf: &mut [u8], at: usize, vals: &[u64]) -> usize
     ensures { Put (vars_bytes vals.now) buf.old at result buf.new }
 {
     let mut p = at;
-    let mut done = 0;
-    while done < vals.len() {
-        p = coding::write_var(buf, p, vals[done]);
-        done += 1;
+    for val in vals {
+        p = coding::write_var(buf, p, *val);
     }
     p
 }
@@ -49,10 +45,7 @@ pub fn put_vars(buf: &mut [u8], at: usize, vals: &[u64]) -> usize
     let Sized::Bytes(n) = vars_len(vals) else {
         return at;
     };
-    if buf.len() < at {
-        return at;
-    }
-    if buf.len() - at < n {
+    if buf.len() < at || buf.len() - at < n {
         return at;
     }
     put_each(buf, at, vals)
@@ -65,14 +58,10 @@ pub fn frame_size(vals: &[u64], bytes: &[u8]) -> Sized
     let Sized::Bytes(n) = vars_len(vals) else {
         return Sized::Refused(Refusal::Argument);
     };
-    if MAX_DATAGRAM < bytes.len() {
+    if MAX_DATAGRAM - n < bytes.len() {
         return Sized::Refused(Refusal::Argument);
     }
-    let all = n + bytes.len();
-    if MAX_DATAGRAM < all {
-        return Sized::Refused(Refusal::Argument);
-    }
-    Sized::Bytes(all)
+    Sized::Bytes(n + bytes.len())
 }
 
 // Writes integers and then bytes, from byte 0 of buf on.

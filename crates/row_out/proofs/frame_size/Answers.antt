@@ -15,23 +15,17 @@ returns-in_default c =
     let a = c.args in
     rw (size_not _ _ _ c.vars_len.ensures _ a.bytes.now c.in_default.is (omega arith))
 
-pub returns-then-bytes-gt-MAX_DATAGRAM : goal.returns-then-bytes-gt-MAX_DATAGRAM
-unfolding sized_of length_of
-returns-then-bytes-gt-MAX_DATAGRAM c =
-    let a = c.args in
-    rw (out_long a.vals.now a.bytes.now (omega arith))
-
-pub overflow_add-all : goal.overflow_add-all
-overflow_add-all c =
+pub overflow_sub-n : goal.overflow_sub-n
+overflow_sub-n c =
     let h = size_held _ _ _ c.vars_len.ensures _ c.in-Bytes.is in
-    omega arith
+    omega (arith, h.short)
 
-pub returns-then-all-gt-MAX_DATAGRAM : goal.returns-then-all-gt-MAX_DATAGRAM
+pub returns-then-n-bytes : goal.returns-then-n-bytes
 unfolding sized_of length_of
-returns-then-all-gt-MAX_DATAGRAM c =
+returns-then-n-bytes c =
     let a = c.args in
     let h = size_held _ _ _ c.vars_len.ensures _ c.in-Bytes.is in
-    rw (out_long a.vals.now a.bytes.now (omega arith))
+    rw (out_long a.vals.now a.bytes.now (omega (arith, h.long)))
 
 pub returns : goal.returns
 unfolding sized_of length_of

@@ -16,12 +16,6 @@ returns-then-buf-at c =
     let h = size_held _ _ _ c.vars_len.ensures _ c.in-Bytes.is in
     rw (out_ok _ _ _ h, append-nil) (put_not _ _ _ (omega arith))
 
-pub returns-then-buf-at-2 : goal.returns-then-buf-at-2
-unfolding stored
-returns-then-buf-at-2 c =
-    let h = size_held _ _ _ c.vars_len.ensures _ c.in-Bytes.is in
-    rw (out_ok _ _ _ h, append-nil) (put_not _ _ _ (omega arith))
-
 pub put_each-requires : goal.put_each-requires
 put_each-requires c =
     let h = size_held _ _ _ c.vars_len.ensures _ c.in-Bytes.is in

@@ -1,9 +1,4 @@
-use Prim.Native.Nat.{suc}
-use mathlib.Core.Path.{◌≡◌, ap, refl}
-use mathlib.Core.List.{[], append-nil}
-use native.Mathlib.Numerals.{add-one}
-use native.Mathlib.Omega.{arith}
-use lib.ListN.{take}
+use Rattle.std.proofs.Common.{◌≡◌, ap, refl, suc, [], append-nil, add-one, arith, take}
 use lib.Seq.{take_all}
 use Rattle.coding.specs.Words.{ok}
 use Rattle.coding.specs.Said.{sized_of}
@@ -13,45 +8,45 @@ use Rattle.row_out.specs.Limits.{below62, vars_bytes}
 use Rattle.row_out.proofs.Laws.{below_more, below_not, length_more, vars_part, Held, out_ok, out_past, out_long}
 use Rattle.row_out.proofs.vars_len.Goals as goal
 
-pub loop-i-init : goal.loop-i-init
+pub loop-x-init : goal.loop-x-init
 unfolding below62 vars_bytes
-loop-i-init c = ((omega arith, omega arith), (refl, refl))
+loop-x-init c = (omega arith, refl, refl)
 
 pub returns-in_default : goal.returns-in_default
 unfolding sized_of length_of
 returns-in_default c =
     let v = c.args.vals.now in
     let h = sized_not _ _ _ c.size.ensures c.in_default.is in
-    rw (out_past v [] (below_not v c.loop-i.i (omega arith) h))
+    rw (out_past v [] (below_not v c.loop-x.x-index (omega arith) h))
 
 pub overflow_add-n : goal.overflow_add-n
 overflow_add-n c =
     let h = sized_bytes _ _ _ c.size.ensures c.in-Bytes.is in
     omega (arith, h.1, size_le _ h.0)
 
-pub returns-then-n-k-gt-MAX_DATAGRAM : goal.returns-then-n-k-gt-MAX_DATAGRAM
+pub returns-then-n-gt-MAX_DATAGRAM : goal.returns-then-n-gt-MAX_DATAGRAM
 unfolding sized_of length_of
-returns-then-n-k-gt-MAX_DATAGRAM c =
+returns-then-n-gt-MAX_DATAGRAM c =
     let v = c.args.vals.now in
-    let i = c.loop-i.i in
+    let i = c.loop-x.x-index in
     let h = sized_bytes _ _ _ c.size.ensures c.in-Bytes.is in
     let m = length_more v i (omega arith) in
-    rw (out_long v [] (omega (arith, h.1, c.loop-i.invariant.1.1, vars_part v (suc i))))
+    rw (out_long v [] (omega (arith, h.1, vars_part v (suc i))))
 
-pub loop-i-preserved : goal.loop-i-preserved
-loop-i-preserved c =
+pub loop-x-preserved : goal.loop-x-preserved
+loop-x-preserved c =
     let v = c.args.vals.now in
-    let i = c.loop-i.i in
+    let i = c.loop-x.x-index in
     let h = sized_bytes _ _ _ c.size.ensures c.in-Bytes.is in
     let m = length_more v i (omega arith) in
-    ((omega arith, omega arith), (rw add-one (below_more v i (omega arith) c.loop-i.invariant.1.0 h.0), rw add-one (omega (arith, h.1, c.loop-i.invariant.1.1))))
+    (omega arith, rw add-one (below_more v i (omega arith) c.loop-x.invariant.1 h.0), rw add-one (omega (arith, h.1, c.loop-x.invariant.2)))
 
 pub returns : goal.returns
 unfolding sized_of length_of
 returns c =
-    let l = c.loop-i in
+    let l = c.loop-x in
     let v = c.args.vals.now in
-    let e : take l.i v ≡ v = take_all l.i v (omega arith) in
-    let m = rw e at l.invariant.1.1 in
-    let k : Held v [] l.n = record { small = rw e at l.invariant.1.0; short = omega (arith, l.invariant.0.1); long = omega (arith, m) } in
+    let e : take l.x-index v ≡ v = take_all l.x-index v (omega arith) in
+    let m = rw e at l.invariant.2 in
+    let k : Held v [] l.n = record { small = rw e at l.invariant.1; short = l.invariant.0; long = omega (arith, m) } in
     rw (out_ok v [] l.n k, append-nil) (ap ok m)
