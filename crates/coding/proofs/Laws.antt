@@ -9,6 +9,7 @@ use native.Mathlib.Omega.{arith}
 use lib.ListN.{length, take, drop, get_or, length-append, length-take, length-drop}
 use lib.Seq.{drop-drop, drop-append-add, take_at as take_to, get_or-drop}
 use lib.Dec.{ltb, leb}
+use borrow.Rule.Slice.PartMut.{put_mid}
 use lib.Pow.{pow_pos}
 use borrow.Author.Tests.{ltb-true, ltb-false, leb-true, le-leb, lt-leb, lt-ltb, le-ltb}
 use Rattle.coding.specs.Words.{Got, cut, got, Answer, no, ok}
@@ -17,13 +18,11 @@ use Rattle.coding.specs.Reading.{fixed_at, take_at}
 use Rattle.coding.specs.Varint.{var_len, var_at, var_tag, var_size, var_bytes, in62, var_sized, var_out, var_put}
 use Rattle.coding.specs.Places.{part_of, start_of}
 use Rattle.coding.specs.Refusals.{number_of}
-use Rattle.coding.specs.Said.{sized_of, u64_of, Below}
+use Rattle.std.specs.Prelude.{Result, Ok, Err}
+use Rattle.coding.specs.Said.{answer_of, read_of, number_read, Below}
 use Rattle.coding.specs.declared.Place.{Place}
 use Rattle.coding.specs.declared.refusal.Refusal.{Refusal}
-use Rattle.coding.specs.declared.U64Read.{U64Read}
-use Rattle.coding.specs.declared.U64Read.TheVariants as u64
-use Rattle.coding.specs.declared.varint.Sized.{Sized}
-use Rattle.coding.specs.declared.varint.Sized.TheVariants as sized
+use Rattle.coding.specs.declared.refusal.UnexpectedEnd.{UnexpectedEnd}
 
 -- ---- bytes
 
@@ -60,6 +59,11 @@ be_below (b ∷ bs) v m o h =
 pub length_splice : (l xs : List ℕ) (at : ℕ) → at + length xs ≤ length l → length (splice l at xs) ≡ length l
 unfolding splice
 length_splice l xs at h = simp (length-append, length-take, length-drop) (omega arith)
+
+-- what stands after a copy into the part from `at` on
+pub mid_splice : (l bs ys : List ℕ) (at k : ℕ) → ys ≡ bs → k ≡ length bs → put_mid at k l ys ≡ splice l at bs
+unfolding splice
+mid_splice l bs ys at k e h = rw (e, h) (simp (drop-drop, append_assoc))
 
 -- what is spliced in after a splice
 pub splice_splice : (l xs ys : List ℕ) (at : ℕ) → at + length xs + length ys ≤ length l
@@ -148,6 +152,14 @@ in62_no {A} x k a = go (ltb x (2 ^ 62)) refl
     go true e h = let z : ◌≡◌ {A = ℕ} 0 1 = cc in absurd (omega arith)
     go false e h = ltb-false _ _ e
 
+pub in62_is : {A : Type 0} (x k : ℕ) (a : A) → in62 x a ≡ no k → k ≡ 14
+unfolding in62
+in62_is {A} x k a = go (ltb x (2 ^ 62))
+  where
+    go : (t : Bool) → ◌≡◌ {A = Answer A} (if t then ok a else no 14) (no k) → k ≡ 14
+    go true h = let z : ◌≡◌ {A = ℕ} 0 1 = cc in absurd (omega arith)
+    go false h = cc
+
 module _ (x : ℕ) where
   pub out_some : x < 2 ^ 62 → var_out x ≡ ok (var_bytes x)
   unfolding var_out in62
@@ -166,20 +178,35 @@ module _ (x : ℕ) where
   put_nothing h = simp (le-ltb _ _ h)
 
 -- what a known size says
-pub sized_bytes : (r : Sized) (x n : ℕ) → sized_of r ≡ var_sized x → r ≡ sized.Bytes n → (x < 2 ^ 62) × (var_size x ≡ n)
-unfolding sized_of var_sized
+pub sized_bytes : (r : Result ℕ Refusal) (x n : ℕ) → answer_of r ≡ var_sized x → r ≡ Ok n → (x < 2 ^ 62) × (var_size x ≡ n)
+unfolding answer_of var_sized
 sized_bytes r x n p q = in62_ok x (var_size x) n (sym (rw q at p))
 
-pub sized_not : (r : Sized) (x : ℕ) (why : Refusal) → sized_of r ≡ var_sized x → r ≡ sized.Refused why → 2 ^ 62 ≤ x
-unfolding sized_of var_sized
+pub sized_not : (r : Result ℕ Refusal) (x : ℕ) (why : Refusal) → answer_of r ≡ var_sized x → r ≡ Err why → 2 ^ 62 ≤ x
+unfolding answer_of var_sized
 sized_not r x why p q = in62_no x (number_of why) (var_size x) (sym (rw q at p))
 
--- a number that was read, by what was seen of the answer
-pub u64_num : (r : U64Read) (g : Got ℕ) (x n : ℕ) → u64_of r ≡ g → r ≡ u64.Num x n → got x n ≡ g
-unfolding u64_of
-u64_num r g x n p q = rw q at p
+pub sized_no : (r : Result ℕ Refusal) (x : ℕ) (why : Refusal) → answer_of r ≡ var_sized x → r ≡ Err why → var_out x ≡ no (number_of why)
+unfolding answer_of var_sized
+sized_no r x why p q = rw (in62_is x (number_of why) (var_size x) (sym (rw q at p))) (out_none x (in62_no x (number_of why) (var_size x) (sym (rw q at p))))
 
-pub below_num : (r : U64Read) (m x n : ℕ) → Below r m → r ≡ u64.Num x n → x < m
+-- a number that was read, by what was seen of the answer
+pub num_read : {T : Type 0} (number : T → ℕ) (r : Result (ℕ × ℕ) UnexpectedEnd) (g : Got ℕ) (x n : ℕ) (y : T)
+    → read_of r ≡ g → r ≡ Ok (x, n) → number y ≡ x → number_read number (Ok (y, n)) ≡ g
+unfolding read_of number_read
+num_read number r g x n y p q e = rw e (rw q at p)
+
+pub number_same : (r : Result (ℕ × ℕ) UnexpectedEnd) → number_read (λ x. x) r ≡ read_of r
+unfolding read_of number_read
+number_same (Ok (x, n)) = refl
+number_same (Err e) = refl
+
+pub num_end : {T : Type 0} (number : T → ℕ) (r : Result (ℕ × ℕ) UnexpectedEnd) (g : Got ℕ) (end : UnexpectedEnd)
+    → read_of r ≡ g → r ≡ Err end → number_read number (Err end) ≡ g
+unfolding read_of number_read
+num_end number r g end p q = rw q at p
+
+pub below_num : (r : Result (ℕ × ℕ) UnexpectedEnd) (m x n : ℕ) → Below r m → r ≡ Ok (x, n) → x < m
 below_num r m x n p q = rw q at p
 
 -- ---- a part

@@ -6,10 +6,11 @@ use denote.Ref.{Bor}
 use Rattle.coding.specs.Words.{Answer}
 use Rattle.coding.specs.Once.{Once}
 use Rattle.coding.specs.Places.{Part}
-use Rattle.coding.specs.Said.{wrote_of}
+use Rattle.std.specs.Prelude.{Result}
+use Rattle.coding.specs.Said.{answer_of}
+use Rattle.coding.specs.declared.refusal.Refusal.{Refusal}
 use Rattle.coding.specs.Writing.{Written, Put}
-use Rattle.coding.specs.declared.Wrote.{Wrote}
-use Rattle.coding.proofs.Inverse.{u8_one, u16_one, u32_one, u64_one, var_one, place_one, made_one, sized_one, wrote_one}
+use Rattle.coding.proofs.Inverse.{read_one, var_one, made_one, answer_one}
 use Rattle.coding.specs.contracts.refusal.Refusal.number as number
 use Rattle.coding.proofs.refusal.Refusal.number.Reads as number_reads
 use Rattle.coding.specs.contracts.varint.VarInt.from_u32 as from_u32
@@ -22,14 +23,6 @@ use Rattle.coding.specs.contracts.varint.VarInt.size as size
 use Rattle.coding.proofs.varint.VarInt.size.Reads as size_reads
 use Rattle.coding.specs.contracts.varint.VarInt.encode as encode
 use Rattle.coding.proofs.varint.VarInt.encode.Reads as encode_reads
-use Rattle.coding.specs.contracts.get_u8 as get_u8
-use Rattle.coding.proofs.get_u8.Reads as get_u8_reads
-use Rattle.coding.specs.contracts.get_u16 as get_u16
-use Rattle.coding.proofs.get_u16.Reads as get_u16_reads
-use Rattle.coding.specs.contracts.get_u32 as get_u32
-use Rattle.coding.proofs.get_u32.Reads as get_u32_reads
-use Rattle.coding.specs.contracts.get_u64 as get_u64
-use Rattle.coding.proofs.get_u64.Reads as get_u64_reads
 use Rattle.coding.specs.contracts.get_var as get_var
 use Rattle.coding.proofs.get_var.Reads as get_var_reads
 use Rattle.coding.specs.contracts.take as take
@@ -38,14 +31,6 @@ use Rattle.coding.specs.contracts.part as part
 use Rattle.coding.proofs.part.Reads as part_reads
 use Rattle.coding.specs.contracts.put_num as put_num
 use Rattle.coding.proofs.put_num.Reads as put_num_reads
-use Rattle.coding.specs.contracts.put_u8 as put_u8
-use Rattle.coding.proofs.put_u8.Reads as put_u8_reads
-use Rattle.coding.specs.contracts.put_u16 as put_u16
-use Rattle.coding.proofs.put_u16.Reads as put_u16_reads
-use Rattle.coding.specs.contracts.put_u32 as put_u32
-use Rattle.coding.proofs.put_u32.Reads as put_u32_reads
-use Rattle.coding.specs.contracts.put_u64 as put_u64
-use Rattle.coding.proofs.put_u64.Reads as put_u64_reads
 use Rattle.coding.specs.contracts.put_slice as put_slice
 use Rattle.coding.proofs.put_slice.Reads as put_slice_reads
 use Rattle.coding.specs.contracts.write_var as write_var
@@ -63,9 +48,9 @@ one_part s x y n l p q i = (((p.block ∙ sym q.block) i, (p.offset ∙ sym q.of
 pub one_put : (bs old : List ℕ) (at x y : ℕ) (b d : List ℕ) → Put bs old at x b → Put bs old at y d → ◌≡◌ {A = ℕ × List ℕ} (x, b) (y, d)
 one_put bs old at x y b d p q i = ((p.place ∙ sym q.place) i, (p.bytes ∙ sym q.bytes) i)
 
-pub one_written : (w : Answer (List ℕ)) (old : List ℕ) (x y : Wrote) (b d : List ℕ) → Written w old (wrote_of x) b → Written w old (wrote_of y) d
-    → ◌≡◌ {A = Wrote × List ℕ} (x, b) (y, d)
-one_written w old x y b d p q i = (wrote_one x y _ p.says q.says i, (p.leaves ∙ sym q.leaves) i)
+pub one_written : (w : Answer (List ℕ)) (old : List ℕ) (x y : Result ℕ Refusal) (b d : List ℕ) → Written w old (answer_of x) b → Written w old (answer_of y) d
+    → ◌≡◌ {A = Result ℕ Refusal × List ℕ} (x, b) (y, d)
+one_written w old x y b d p q i = (answer_one x y _ p.says q.says i, (p.leaves ∙ sym q.leaves) i)
 
 -- ---- refusals and integers
 
@@ -87,29 +72,13 @@ into_inner_once κs a x y s t p q = p ∙ sym q
 
 size_once : Once size.ended size_reads.Post (λ κs x s. x)
 unfolding Once
-size_once κs a x y s t p q = sized_one x y _ p q
+size_once κs a x y s t p q = answer_one x y _ p q
 
-encode_once : Once {B = Wrote × List ℕ} encode.ended encode_reads.Post (λ κs x s. (x, s.1.0.now))
+encode_once : Once {B = Result ℕ Refusal × List ℕ} encode.ended encode_reads.Post (λ κs x s. (x, s.1.0.now))
 unfolding Once
 encode_once κs a x y s t p q = one_written _ _ x y _ _ p q
 
 -- ---- reads
-
-get_u8_once : Once get_u8.ended get_u8_reads.Post (λ κs x s. x)
-unfolding Once
-get_u8_once κs a x y s t p q = u8_one x y _ p q
-
-get_u16_once : Once get_u16.ended get_u16_reads.Post (λ κs x s. x)
-unfolding Once
-get_u16_once κs a x y s t p q = u16_one x y _ p q
-
-get_u32_once : Once get_u32.ended get_u32_reads.Post (λ κs x s. x)
-unfolding Once
-get_u32_once κs a x y s t p q = u32_one x y _ p q
-
-get_u64_once : Once get_u64.ended get_u64_reads.Post (λ κs x s. x)
-unfolding Once
-get_u64_once κs a x y s t p q = u64_one x y _ p q
 
 get_var_once : Once get_var.ended get_var_reads.Post (λ κs x s. x)
 unfolding Once
@@ -117,7 +86,7 @@ get_var_once κs a x y s t p q = var_one x y _ p q
 
 take_once : Once take.ended take_reads.Post (λ κs x s. x)
 unfolding Once
-take_once κs a x y s t p q = place_one x y _ p q
+take_once κs a x y s t p q = read_one x y _ p q
 
 part_once : Once part.ended part_reads.Post (λ κs x s. seen x)
 unfolding Once
@@ -134,22 +103,6 @@ part_whole κs a x y s t p q i =
 put_num_once : Once {B = ℕ × List ℕ} put_num.ended put_num_reads.Post (λ κs x s. (x, s.0.now))
 unfolding Once
 put_num_once κs a x y s t p q = one_put _ _ _ x y _ _ p q
-
-put_u8_once : Once {B = ℕ × List ℕ} put_u8.ended put_u8_reads.Post (λ κs x s. (x, s.0.now))
-unfolding Once
-put_u8_once κs a x y s t p q = one_put _ _ _ x y _ _ p q
-
-put_u16_once : Once {B = ℕ × List ℕ} put_u16.ended put_u16_reads.Post (λ κs x s. (x, s.0.now))
-unfolding Once
-put_u16_once κs a x y s t p q = one_put _ _ _ x y _ _ p q
-
-put_u32_once : Once {B = ℕ × List ℕ} put_u32.ended put_u32_reads.Post (λ κs x s. (x, s.0.now))
-unfolding Once
-put_u32_once κs a x y s t p q = one_put _ _ _ x y _ _ p q
-
-put_u64_once : Once {B = ℕ × List ℕ} put_u64.ended put_u64_reads.Post (λ κs x s. (x, s.0.now))
-unfolding Once
-put_u64_once κs a x y s t p q = one_put _ _ _ x y _ _ p q
 
 put_slice_once : Once {B = ℕ × List ℕ} put_slice.ended put_slice_reads.Post (λ κs x s. (x, s.0.now))
 unfolding Once

@@ -9,21 +9,11 @@ use borrow.Author.Tests.{lt-ltb, le-ltb, le-leb, lt-leb, eq-eqb, ne_eqb}
 use Rattle.coding.specs.Words.{Got, cut, got, and_then}
 use Rattle.coding.specs.Reading.{fixed_at, take_at}
 use Rattle.coding.specs.Varint.{var_at}
-use Rattle.coding.specs.Said.{u8_of, u16_of, u32_of, u64_of, var_of, place_of}
+use Rattle.std.specs.Prelude.{Result, Ok, Err}
+use Rattle.coding.specs.Said.{read_of, number_read, var_of}
 use Rattle.coding.specs.declared.Place.{Place}
+use Rattle.coding.specs.declared.refusal.UnexpectedEnd.{UnexpectedEnd}
 use Rattle.coding.specs.declared.varint.VarInt.{VarInt}
-use Rattle.coding.specs.declared.U8Read.{U8Read}
-use Rattle.coding.specs.declared.U8Read.TheVariants as u8
-use Rattle.coding.specs.declared.U16Read.{U16Read}
-use Rattle.coding.specs.declared.U16Read.TheVariants as u16
-use Rattle.coding.specs.declared.U32Read.{U32Read}
-use Rattle.coding.specs.declared.U32Read.TheVariants as u32
-use Rattle.coding.specs.declared.U64Read.{U64Read}
-use Rattle.coding.specs.declared.U64Read.TheVariants as u64
-use Rattle.coding.specs.declared.VarRead.{VarRead}
-use Rattle.coding.specs.declared.VarRead.TheVariants as var
-use Rattle.coding.specs.declared.PlaceRead.{PlaceRead}
-use Rattle.coding.specs.declared.PlaceRead.TheVariants as place
 
 -- a test on the way says which case of a definition holds
 pub ruleset tests = (lt-ltb, le-ltb, le-leb, lt-leb, eq-eqb, ne_eqb)
@@ -52,62 +42,35 @@ pub ruleset choices = (lt_yes, lt_no, le_yes, le_no, eq_yes, eq_no)
 
 -- a read on the way was answered r, which was seen to be a value or the end: so goes the definition
 module _ {A : Type 0} (x stop : A) (s : List ℕ) (at : ℕ) where
-  module _ (f : ℕ → ℕ → A) (r : U8Read) (e : u8_of r ≡ fixed_at 1 s at) where
-    pub u8_on : (v n : ℕ) → r ≡ u8.Num v n → x ≡ f v n → x ≡ and_then (fixed_at 1 s at) stop f
-    unfolding and_then u8_of
-    u8_on v n q h = rw (← e, q) h
+  module _ (f : ℕ → ℕ → A) (n : ℕ) {T : Type 0} (number : T → ℕ) (r : Result (T × ℕ) UnexpectedEnd) (e : number_read number r ≡ fixed_at n s at) where
+    pub num_on : (v : T) (next : ℕ) → r ≡ Ok (v, next) → x ≡ f (number v) next → x ≡ and_then (fixed_at n s at) stop f
+    unfolding and_then number_read
+    num_on v next q h = rw (← e, q) h
 
-    pub u8_cut : r ≡ u8.End → x ≡ stop → x ≡ and_then (fixed_at 1 s at) stop f
-    unfolding and_then u8_of
-    u8_cut q h = rw (← e, q) h
+    pub num_cut : (end : UnexpectedEnd) → r ≡ Err end → x ≡ stop → x ≡ and_then (fixed_at n s at) stop f
+    unfolding and_then number_read
+    num_cut end q h = rw (← e, q) h
 
-  module _ (f : ℕ → ℕ → A) (r : U16Read) (e : u16_of r ≡ fixed_at 2 s at) where
-    pub u16_on : (v n : ℕ) → r ≡ u16.Num v n → x ≡ f v n → x ≡ and_then (fixed_at 2 s at) stop f
-    unfolding and_then u16_of
-    u16_on v n q h = rw (← e, q) h
-
-    pub u16_cut : r ≡ u16.End → x ≡ stop → x ≡ and_then (fixed_at 2 s at) stop f
-    unfolding and_then u16_of
-    u16_cut q h = rw (← e, q) h
-
-  module _ (f : ℕ → ℕ → A) (r : U32Read) (e : u32_of r ≡ fixed_at 4 s at) where
-    pub u32_on : (v n : ℕ) → r ≡ u32.Num v n → x ≡ f v n → x ≡ and_then (fixed_at 4 s at) stop f
-    unfolding and_then u32_of
-    u32_on v n q h = rw (← e, q) h
-
-    pub u32_cut : r ≡ u32.End → x ≡ stop → x ≡ and_then (fixed_at 4 s at) stop f
-    unfolding and_then u32_of
-    u32_cut q h = rw (← e, q) h
-
-  module _ (f : ℕ → ℕ → A) (r : U64Read) (e : u64_of r ≡ fixed_at 8 s at) where
-    pub u64_on : (v n : ℕ) → r ≡ u64.Num v n → x ≡ f v n → x ≡ and_then (fixed_at 8 s at) stop f
-    unfolding and_then u64_of
-    u64_on v n q h = rw (← e, q) h
-
-    pub u64_cut : r ≡ u64.End → x ≡ stop → x ≡ and_then (fixed_at 8 s at) stop f
-    unfolding and_then u64_of
-    u64_cut q h = rw (← e, q) h
-
-  module _ (f : ℕ → ℕ → A) (r : VarRead) (e : var_of r ≡ var_at s at) where
-    pub var_on : (v : VarInt) (n : ℕ) → r ≡ var.Var v n → x ≡ f v.0 n → x ≡ and_then (var_at s at) stop f
+  module _ (f : ℕ → ℕ → A) (r : Result (VarInt × ℕ) UnexpectedEnd) (e : var_of r ≡ var_at s at) where
+    pub var_on : (v : VarInt) (n : ℕ) → r ≡ Ok (v, n) → x ≡ f v.0 n → x ≡ and_then (var_at s at) stop f
     unfolding and_then var_of
     var_on v n q h = rw (← e, q) h
 
-    pub var_cut : r ≡ var.End → x ≡ stop → x ≡ and_then (var_at s at) stop f
+    pub var_cut : (end : UnexpectedEnd) → r ≡ Err end → x ≡ stop → x ≡ and_then (var_at s at) stop f
     unfolding and_then var_of
-    var_cut q h = rw (← e, q) h
+    var_cut end q h = rw (← e, q) h
 
-  module _ (f : Place → ℕ → A) (k : ℕ) (r : PlaceRead) (e : place_of r ≡ take_at k s at) where
-    pub place_on : (v : Place) (n : ℕ) → r ≡ place.At v n → x ≡ f v n → x ≡ and_then (take_at k s at) stop f
-    unfolding and_then place_of
+  module _ (f : Place → ℕ → A) (k : ℕ) (r : Result (Place × ℕ) UnexpectedEnd) (e : read_of r ≡ take_at k s at) where
+    pub place_on : (v : Place) (n : ℕ) → r ≡ Ok (v, n) → x ≡ f v n → x ≡ and_then (take_at k s at) stop f
+    unfolding and_then read_of
     place_on v n q h = rw (← e, q) h
 
-    pub place_cut : r ≡ place.End → x ≡ stop → x ≡ and_then (take_at k s at) stop f
-    unfolding and_then place_of
-    place_cut q h = rw (← e, q) h
+    pub place_cut : (end : UnexpectedEnd) → r ≡ Err end → x ≡ stop → x ≡ and_then (take_at k s at) stop f
+    unfolding and_then read_of
+    place_cut end q h = rw (← e, q) h
 
 -- a run of reads and tests
-pub ruleset steps = (var_on, var_cut, place_on, place_cut, u8_on, u8_cut, u16_on, u16_cut, u32_on, u32_cut, u64_on, u64_cut, choices)
+pub ruleset steps = (var_on, var_cut, place_on, place_cut, num_on, num_cut, choices)
 
 -- what holds of each way holds of a choice, and of what follows a read
 pub if_all : {A : Type 0} (P : A → Type 0) (t : Bool) (p q : A) → (t ≡ true → P p) → (t ≡ false → P q) → P (if t then p else q)

@@ -5,7 +5,8 @@ use Prim.Native.Nat.{ℕ, suc, ◌+◌, ◌-◌, ◌*◌, ◌/◌, ◌%◌, ◌^
 use native.Mathlib.Nat.{pow-suc, pow-succ', mul_assoc, mul-le-mul_right, le_trans, le-mul_of_pos_right, one-le-pow, div-div-eq-div-mul}
 use native.Mathlib.Numerals.{add-one}
 use native.Mathlib.Omega.{arith}
-use lib.ListN.{length, take, drop, get_or, set, length-drop}
+use Rattle.std.proofs.lemmas.List.{get_or-take}
+use lib.ListN.{length, take, drop, get_or, set, length-take, length-drop}
 use lib.Seq.{take-suc, get_or-drop, set_comm, sets, sets-eq}
 use Rattle.coding.specs.Bytes.{be, bytes_be, splice}
 use Rattle.coding.specs.Varint.{var_size, var_bytes, var_put}
@@ -24,6 +25,13 @@ pub be_more : (v : ℕ) (s : List ℕ) (at i : ℕ) → at + i < length s
 be_more v s at i h =
     let k : i < length (drop at s) = simp length-drop (omega arith) in
     rw (add-one, take-suc (drop at s) i 0, be_snoc, get_or-drop)
+
+-- the part that the loop goes over: as long as asked, and of the bytes there
+pub part_len : (s : List ℕ) (at n : ℕ) → at + n ≤ length s → length (take (at + n - at) (drop at s)) ≡ n
+part_len s at n h = simp (length-take, length-drop) (omega arith)
+
+pub part_at : (s : List ℕ) (at n i : ℕ) → i < n → get_or (take (at + n - at) (drop at s)) i 0 ≡ get_or s (at + i) 0
+part_at s at n i h = get_or-take (at + n - at) (drop at s) i 0 (omega arith) ∙ get_or-drop at s i 0
 
 -- room for the bytes from i to n after v: after one byte more there is room for those from i + 1
 pub room : (v b n i m : ℕ) → b < 256 → i < n → (v + 1) * 256 ^ (n - i) ≤ m → (v * 256 + b + 1) * 256 ^ (n - (i + 1)) ≤ m
@@ -52,13 +60,12 @@ set_sets (a ∷ ys) l j k y h =
     ∙ ap (λ (r : List ℕ). sets r (suc k) ys) (set_comm l k j a y (λ e. omega arith))
 
 -- one byte more, in front
-pub put_more : (l : List ℕ) (at n x i : ℕ) → 0 < i → i ≤ n
-    → set (sets l (at + i) (bytes_be (n - i) x)) (at + (i - 1)) (x / 256 ^ (n - i) % 256) ≡ sets l (at + (i - 1)) (bytes_be (n - (i - 1)) x)
+pub put_more : (l : List ℕ) (n x i j : ℕ) → i ≡ suc j → i ≤ n
+    → set (sets l i (bytes_be (n - i) x)) j (x / 256 ^ (n - i) % 256) ≡ sets l j (bytes_be (n - j) x)
 unfolding bytes_be
-put_more l at n x i h k =
-    let e : n - (i - 1) ≡ suc (n - i) = omega arith in
-    let p : at + i ≡ suc (at + (i - 1)) = omega arith in
-    rw (e, p) (set_sets (bytes_be (n - i) x) l (at + (i - 1)) (suc (at + (i - 1))) (x / 256 ^ (n - i) % 256) (omega arith))
+put_more l n x i j p k =
+    let e : n - j ≡ suc (n - suc j) = omega arith in
+    rw (p, e) (set_sets (bytes_be (n - suc j) x) l j (suc j) (x / 256 ^ (n - suc j) % 256) (omega arith))
 
 -- what is left of x to store
 pub rest_more : (n x i : ℕ) → 0 < i → i ≤ n → x / 256 ^ (n - i) / 256 ≡ x / 256 ^ (n - (i - 1))

@@ -2,8 +2,9 @@
 // number of none (document 02, request 09).
 ghost use Rattle.std.specs.Prelude.{◌≡◌};
 ghost use Rattle.coding.specs.Refusals.{number_of};
+ghost use Rattle.coding.specs.declared.refusal.Refusal.TheVariants as refusal;
 
-#[derive(Clone, Copy)]
+#[derive(Clone, Copy, PartialEq, Eq)]
 pub enum Refusal {
     // 1: a first byte, version, token length or Length is cut
     PacketEnd,
@@ -59,5 +60,18 @@ impl Refusal {
             Refusal::Room => 15,
             Refusal::TooFar => 16,
         }
+    }
+}
+
+// The input ends before a field does.
+#[derive(Clone, Copy, PartialEq, Eq)]
+pub struct UnexpectedEnd;
+
+// By itself it is 10.
+impl From<UnexpectedEnd> for Refusal {
+    ghost from_gives = { λ _ r. r ≡ refusal.UnexpectedEnd };
+
+    fn from(_end: UnexpectedEnd) -> Refusal {
+        Refusal::UnexpectedEnd
     }
 }

@@ -2,27 +2,13 @@
 ghost use Rattle.std.specs.Prelude.{◌≡◌};
 ghost use Rattle.coding.specs.Varint.{var_made, var_sized, var_out};
 ghost use Rattle.coding.specs.Writing.{Written};
-ghost use Rattle.coding.specs.Said.{made_of, sized_of, wrote_of};
+ghost use Rattle.coding.specs.Said.{made_of, answer_of};
 
-use crate::{MAX_NUMBER, NUMBER_END, Refusal, Wrote};
+use crate::{MAX_NUMBER, NUMBER_END, Refusal};
 
 // An integer less than 2^62.
-#[derive(Clone, Copy)]
+#[derive(Clone, Copy, PartialEq, Eq, PartialOrd, Ord)]
 pub struct VarInt(pub u64);
-
-// An integer, or a refusal.
-#[derive(Clone, Copy)]
-pub enum VarMade {
-    Var(VarInt),
-    Refused(Refusal),
-}
-
-// A written size, or a refusal.
-#[derive(Clone, Copy)]
-pub enum Sized {
-    Bytes(usize),
-    Refused(Refusal),
-}
 
 impl VarInt {
     // The largest representable value.
@@ -38,13 +24,13 @@ impl VarInt {
     }
 
     // Succeeds exactly for x < 2^62.
-    pub fn from_u64(x: u64) -> VarMade
+    pub fn from_u64(x: u64) -> Result<VarInt, Refusal>
         ensures { made_of result ≡ var_made x }
     {
         if x < NUMBER_END {
-            VarMade::Var(VarInt(x))
+            Ok(VarInt(x))
         } else {
-            VarMade::Refused(Refusal::Argument)
+            Err(Refusal::Argument)
         }
     }
 
@@ -55,35 +41,33 @@ impl VarInt {
     }
 
     // The number of bytes needed to encode this value: 1, 2, 4 and 8 bytes hold up to 6, 14, 30 and 62 bits in use.
-    pub fn size(self) -> Sized
-        ensures { sized_of result ≡ var_sized self.0 }
+    pub fn size(self) -> Result<usize, Refusal>
+        ensures { answer_of result ≡ var_sized self.0 }
     {
         let used = 64 - u64::leading_zeros(self.0);
         if used <= 6 {
-            return Sized::Bytes(1);
+            return Ok(1);
         }
         if used <= 14 {
-            return Sized::Bytes(2);
+            return Ok(2);
         }
         if used <= 30 {
-            return Sized::Bytes(4);
+            return Ok(4);
         }
         if used <= 62 {
-            return Sized::Bytes(8);
+            return Ok(8);
         }
-        Sized::Refused(Refusal::Argument)
+        Err(Refusal::Argument)
     }
 
     // Writes the shortest form from byte 0 of buf on, and answers its length.
-    pub fn encode(self, buf: &mut [u8]) -> Wrote
-        ensures { Written (var_out self.0) buf.old (wrote_of result) buf.new }
+    pub fn encode(self, buf: &mut [u8]) -> Result<usize, Refusal>
+        ensures { Written (var_out self.0) buf.old (answer_of result) buf.new }
     {
-        let Sized::Bytes(n) = self.size() else {
-            return Wrote::Refused(Refusal::Argument);
-        };
+        let n = self.size()?;
         if buf.len() < n {
-            return Wrote::Refused(Refusal::Room);
+            return Err(Refusal::Room);
         }
-        Wrote::Len(crate::write_var(buf, 0, self.0))
+        Ok(crate::write_var(buf, 0, self.0))
     }
 }

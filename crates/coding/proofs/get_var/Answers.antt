@@ -13,7 +13,7 @@ returns-then-s-at c = var_none _ _ (omega arith)
 
 pub returns-then-first-lt64 : goal.returns-then-first-lt64
 unfolding var_of
-returns-then-first-lt64 c = rw c.wide.ensures (var_one _ _ (omega arith) (omega arith))
+returns-then-first-lt64 c = var_one _ _ (omega arith) (omega arith)
 
 pub returns-then-s-at-2 : goal.returns-then-s-at-2
 unfolding var_of
@@ -30,4 +30,4 @@ pub returns : goal.returns
 unfolding var_of
 returns c =
     let n = c.var_len-n in
-    var_some _ _ _ (omega arith) n.ensures.0 _ (omega arith) (c.be_from-v.ensures.0 ∙ rw c.wide-2.ensures)
+    var_some _ _ _ (omega arith) n.ensures.0 _ (omega arith) c.be_from-v.ensures.0

@@ -13,15 +13,6 @@ returns-then-s-start c =
       offset = omega (arith, start_out a.s.now a.p (omega arith));
     }
 
-pub returns-then-s-start-2 : goal.returns-then-s-start-2
-returns-then-s-start-2 c =
-    let a = c.args in
-    record {
-      bytes = part_out a.s.now a.p (omega arith);
-      block = refl;
-      offset = omega (arith, start_out a.s.now a.p (omega arith));
-    }
-
 pub returns : goal.returns
 returns c =
     let a = c.args in

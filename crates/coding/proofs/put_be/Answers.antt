@@ -1,40 +1,36 @@
-use borrow.Author.Rules.{rules}
 use native.Mathlib.Omega.{arith}
-use mathlib.Core.Path.{◌≡◌, ap, ◌∙◌}
-use native.Mathlib.Nat.{sub-zero, sub_self, add-zero, div-one}
-use lib.ListN.{length}
-use lib.Seq.{length-sets}
+use borrow.Author.Rules.{rules}
+use native.Mathlib.Nat.{sub_self, div-one}
+use mathlib.Core.Path.{◌≡◌, ◌∙◌}
+use Prim.Native.Nat.{◌+◌, ◌-◌}
 use Rattle.coding.specs.Bytes.{bytes_be}
-use Rattle.coding.proofs.Steps.{put_more, rest_more, sets_splice}
 use Rattle.coding.proofs.Laws.{length_bytes_be}
+use Rattle.coding.proofs.Steps.{put_more, rest_more, sets_splice}
 use Rattle.coding.proofs.put_be.Goals as goal
 
 pub loop-i-init : goal.loop-i-init
 unfolding bytes_be
-loop-i-init c = (search rules, (simp sub_self, simp (sub_self, div-one)))
-
-pub bounds-buf-at : goal.bounds-buf-at
-bounds-buf-at c =
-    let l = c.loop-i in
-    rw (l.invariant.1.0, length-sets) (omega arith)
+loop-i-init c = (omega arith, (search rules, (simp sub_self, simp (sub_self, div-one))))
 
 pub loop-i-preserved : goal.loop-i-preserved
 loop-i-preserved c =
     let l = c.loop-i in
+    let i = l.invariant in
     let a = c.args in (
       omega arith,
       (
-        rw (l.invariant.1.0, l.invariant.1.1) (put_more a.buf.now a.at a.n a.x l.i c.loop-i-test.true l.invariant.0),
-        rw l.invariant.1.1 (rest_more a.n a.x l.i c.loop-i-test.true l.invariant.0),
+        omega arith,
+        (
+          rw (i.1.1.0, i.1.1.1) (put_more a.buf.now (a.at + a.n) a.x l.i (l.i - 1) (omega arith) (omega arith)),
+          rw i.1.1.1 (rest_more (a.at + a.n) a.x l.i (omega arith) (omega arith)),
+        ),
       ),
     )
 
-pub shape_of-buf : goal.shape_of-buf
-shape_of-buf c = ap length c.loop-i.invariant.1.0 ∙ simp length-sets
-
 pub returns : goal.returns
 returns c =
+    let l = c.loop-i in
     let a = c.args in
-    let e : c.loop-i.i ≡ 0 = omega arith in
-    c.loop-i.invariant.1.0
-    ∙ simp (e, add-zero, sub-zero) (sets_splice a.buf.now (bytes_be a.n a.x) a.at (simp length_bytes_be c.requires))
+    let e : l.i ≡ a.at = omega arith in
+    let n : a.at + a.n - a.at ≡ a.n = omega arith in
+    l.invariant.1.1.0 ∙ simp (e, n) (sets_splice a.buf.now (bytes_be a.n a.x) a.at (simp length_bytes_be c.requires))

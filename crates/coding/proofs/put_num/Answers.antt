@@ -5,10 +5,7 @@ use borrow.Author.Rules.{rules}
 use Rattle.coding.proofs.put_num.Goals as goal
 
 pub returns-then-buf-at : goal.returns-then-buf-at
-returns-then-buf-at c = put_not _ _ _ (simp length_bytes_be (omega arith))
-
-pub returns-then-buf-at-2 : goal.returns-then-buf-at-2
-returns-then-buf-at-2 c = put_not _ _ _ (simp length_bytes_be (omega arith))
+returns-then-buf-at c = put_not _ _ _ (simp length_bytes_be (search rules))
 
 pub returns : goal.returns
 returns c = put_fits _ _ _ (simp length_bytes_be (omega arith)) (record { place = simp length_bytes_be; bytes = search rules })
