@@ -1,6 +1,7 @@
 -- Each map from the code's answers to the paper's words has an inverse: what is said settles the answer.
 use mathlib.Core.Path.{◌≡◌, refl, sym, ap, ◌∙◌}
 use Prim.Native.Nat.{ℕ}
+use native.Mathlib.Omega.{arith}
 use Rattle.coding.specs.Words.{Got, cut, got, Answer, no, ok}
 use Rattle.std.specs.Prelude.{Result, Ok, Err}
 use Rattle.coding.specs.Said.{read_of, number_read, var_of, answer_of, made_of}
@@ -33,6 +34,20 @@ read_one {A} = one_by read_of read_back back
     back : (r : Result (A × ℕ) UnexpectedEnd) → read_back (read_of r) ≡ r
     back (Ok (v, n)) = refl
     back (Err e) = refl
+
+pub number_one : {T : Type 0} (number : T → ℕ) → ((a b : T) → number a ≡ number b → a ≡ b) → (x y : Result (T × ℕ) UnexpectedEnd) (g : Got ℕ)
+    → number_read number x ≡ g → number_read number y ≡ g → x ≡ y
+unfolding number_read
+number_one {T} number one x y g p q = same x y (p ∙ sym q)
+  where
+    is_got : Got ℕ → ℕ
+    is_got = found 0 (λ a n. 1)
+
+    same : (x y : Result (T × ℕ) UnexpectedEnd) → number_read number x ≡ number_read number y → x ≡ y
+    same (Ok (v, n)) (Ok (w, m)) e = let f = one v w (ap (found 0 (λ a n. a)) e) in let k = ap (found 0 (λ a n. n)) e in λ i. Ok (f i, k i)
+    same (Ok (v, n)) (Err f) e = let z : ◌≡◌ {A = ℕ} 1 0 = ap is_got e in absurd (omega arith)
+    same (Err f) (Ok (w, m)) e = let z : ◌≡◌ {A = ℕ} 0 1 = ap is_got e in absurd (omega arith)
+    same (Err f) (Err h) e = refl
 
 pub var_one : (x y : Result (VarInt × ℕ) UnexpectedEnd) (g : Got ℕ) → var_of x ≡ g → var_of y ≡ g → x ≡ y
 unfolding var_of

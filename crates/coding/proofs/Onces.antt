@@ -2,15 +2,20 @@
 use mathlib.Core.Path.{◌≡◌, ◌∙◌, sym, ap}
 use mathlib.Core.List.{List}
 use Prim.Native.Nat.{ℕ}
+use mir.Syntax.{Dict}
 use denote.Ref.{Bor}
+use denote.Param.Laws.{Laws}
+use denote.RattleType.{RattleType}
+use Rattle.coding.specs.declared.codec.Codec
 use Rattle.coding.specs.Words.{Answer}
 use Rattle.coding.specs.Once.{Once}
+use Rattle.coding.specs.Reading.{fixed_at}
 use Rattle.coding.specs.Places.{Part}
 use Rattle.std.specs.Prelude.{Result}
 use Rattle.coding.specs.Said.{answer_of}
 use Rattle.coding.specs.declared.refusal.Refusal.{Refusal}
 use Rattle.coding.specs.Writing.{Written, Put}
-use Rattle.coding.proofs.Inverse.{read_one, var_one, made_one, answer_one}
+use Rattle.coding.proofs.Inverse.{read_one, number_one, var_one, made_one, answer_one}
 use Rattle.coding.specs.contracts.refusal.Refusal.number as number
 use Rattle.coding.proofs.refusal.Refusal.number.Reads as number_reads
 use Rattle.coding.specs.contracts.varint.VarInt.from_u32 as from_u32
@@ -23,12 +28,16 @@ use Rattle.coding.specs.contracts.varint.VarInt.size as size
 use Rattle.coding.proofs.varint.VarInt.size.Reads as size_reads
 use Rattle.coding.specs.contracts.varint.VarInt.encode as encode
 use Rattle.coding.proofs.varint.VarInt.encode.Reads as encode_reads
+use Rattle.coding.specs.contracts.get as get
+use Rattle.coding.proofs.get.Reads as get_reads
 use Rattle.coding.specs.contracts.get_var as get_var
 use Rattle.coding.proofs.get_var.Reads as get_var_reads
 use Rattle.coding.specs.contracts.take as take
 use Rattle.coding.proofs.take.Reads as take_reads
 use Rattle.coding.specs.contracts.part as part
 use Rattle.coding.proofs.part.Reads as part_reads
+use Rattle.coding.specs.contracts.put as put
+use Rattle.coding.proofs.put.Reads as put_reads
 use Rattle.coding.specs.contracts.put_num as put_num
 use Rattle.coding.proofs.put_num.Reads as put_num_reads
 use Rattle.coding.specs.contracts.put_slice as put_slice
@@ -111,3 +120,13 @@ put_slice_once κs a x y s t p q = one_put _ _ _ x y _ _ p q
 write_var_once : Once {B = ℕ × List ℕ} write_var.ended write_var_reads.Post (λ κs x s. (x, s.0.now))
 unfolding Once
 write_var_once κs a x y s t p q = one_put _ _ _ x y _ _ p q
+
+-- of any type whose numbers tell its values: the law `one` of Codec
+module _ (T : RattleType) (laws : Laws T) (g : Codec.Ghosts T.Denot) (d : Dict) (one : (x y : T.Denot) → g.number x ≡ g.number y → x ≡ y) where
+  get_once : Once (get.ended T g d) (get_reads.Post T laws g d) (λ κs x s. x)
+  unfolding Once
+  get_once κs a x y s t p q = number_one g.number one x y (fixed_at g.size a.0.now a.1.0) p q
+
+  put_once : Once {B = ℕ × List ℕ} (put.ended T g d) (put_reads.Post T laws g d) (λ κs x s. (x, s.0.now))
+  unfolding Once
+  put_once κs a x y s t p q = one_put _ _ _ x y _ _ p q
