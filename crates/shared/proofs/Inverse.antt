@@ -3,54 +3,66 @@ use mathlib.Core.Path.{◌≡◌, refl, ap}
 use mathlib.Core.Bool.{cond}
 use Prim.Native.Nat.{ℕ}
 use lib.Dec.{eqb}
-use Rattle.coding.specs.Words.{Answer}
+use Rattle.std.proofs.Common.{Option, Some, None, Result, Ok, Err}
+use Rattle.coding.specs.Words.{Got, Answer}
+use Rattle.coding.specs.declared.refusal.Refusal.{Refusal}
 use Rattle.coding.proofs.Numbers.{refusal_of, refusal_back}
-use Rattle.coding.proofs.Inverse.{one_by, answered}
-use Rattle.shared.specs.Said.{cid_answer_of, cid_read_of, ecn_read_of, side_bit, dir_bit, stream_of}
+use Rattle.coding.proofs.Inverse.{one_by, found, answered}
+use Rattle.shared.specs.Cid.{no_cid}
+use Rattle.shared.specs.Said.{found_of, cid_made_of, cid_read_of, ecn_read_of, side_bit, dir_bit, stream_of}
 use Rattle.shared.specs.declared.cid.ConnectionId.{ConnectionId}
-use Rattle.shared.specs.declared.cid.CidRead.{CidRead}
-use Rattle.shared.specs.declared.cid.CidAnswer.{CidAnswer}
-use Rattle.shared.specs.declared.cid.CidAnswer.TheVariants as cid
+use Rattle.shared.specs.declared.codepoint.EcnCodepoint.{EcnCodepoint}
 use Rattle.shared.specs.declared.codepoint.EcnCodepoint.TheVariants as ecn
-use Rattle.shared.specs.declared.codepoint.EcnRead.{EcnRead}
-use Rattle.shared.specs.declared.codepoint.EcnRead.TheVariants as ecn_read
 use Rattle.shared.specs.declared.kinds.Side.{Side}
 use Rattle.shared.specs.declared.kinds.Side.TheVariants as side
 use Rattle.shared.specs.declared.kinds.Dir.{Dir}
 use Rattle.shared.specs.declared.kinds.Dir.TheVariants as dir
-use Rattle.shared.specs.declared.kinds.StreamMade.{StreamMade}
-use Rattle.shared.specs.declared.kinds.StreamMade.TheVariants as made
+use Rattle.shared.specs.declared.kinds.StreamId.{StreamId}
 
-pub cid_one : (x y : CidRead) (g : Answer ℕ × ConnectionId) → cid_read_of x ≡ g → cid_read_of y ≡ g → x ≡ y
-unfolding cid_read_of cid_answer_of
-cid_one = one_by cid_read_of read_by back
+pub found_one : {A : Type 0} (x y : Option (A × ℕ)) (g : Got A) → found_of x ≡ g → found_of y ≡ g → x ≡ y
+unfolding found_of
+found_one = one_by found_of (found None (λ a n. Some (a, n))) back
   where
-    answer_by : Answer ℕ → CidAnswer
-    answer_by = answered (λ k. cid.Refused (refusal_of k)) cid.At
+    back : {A : Type 0} (r : Option (A × ℕ)) → found None (λ a n. Some (a, n)) (found_of r) ≡ r
+    back (Some (a, n)) = refl
+    back None = refl
 
-    read_by : Answer ℕ × ConnectionId → CidRead
-    read_by g = record { answer = answer_by g.0; cid = g.1 }
+-- a CID beside a number or a place: the refusal leaves the empty one out
+abbrev made_by : Answer ℕ × ConnectionId → Result ConnectionId Refusal
+made_by g = answered (λ k. Err (refusal_of k)) (λ n. Ok g.1) g.0
 
-    answer_back : (a : CidAnswer) → answer_by (cid_answer_of a) ≡ a
-    answer_back (cid.At next) = refl
-    answer_back (cid.Refused why) = ap cid.Refused (refusal_back why)
+pub cid_made_one : (x y : Result ConnectionId Refusal) (g : Answer ℕ × ConnectionId) → cid_made_of x ≡ g → cid_made_of y ≡ g → x ≡ y
+unfolding cid_made_of no_cid
+cid_made_one = one_by cid_made_of made_by back
+  where
+    back : (r : Result ConnectionId Refusal) → made_by (cid_made_of r) ≡ r
+    back (Ok c) = refl
+    back (Err why) = ap Err (refusal_back why)
 
-    back : (r : CidRead) → read_by (cid_read_of r) ≡ r
-    back r = ap (λ (a : CidAnswer). record { answer = a; cid = r.cid }) (answer_back r.answer)
+abbrev read_by : Answer ℕ × ConnectionId → Result (ConnectionId × ℕ) Refusal
+read_by g = answered (λ k. Err (refusal_of k)) (λ n. Ok (g.1, n)) g.0
 
-pub ecn_one : (x y : EcnRead) (n : ℕ) → ecn_read_of x ≡ n → ecn_read_of y ≡ n → x ≡ y
+pub cid_read_one : (x y : Result (ConnectionId × ℕ) Refusal) (g : Answer ℕ × ConnectionId) → cid_read_of x ≡ g → cid_read_of y ≡ g → x ≡ y
+unfolding cid_read_of no_cid
+cid_read_one = one_by cid_read_of read_by back
+  where
+    back : (r : Result (ConnectionId × ℕ) Refusal) → read_by (cid_read_of r) ≡ r
+    back (Ok (c, n)) = refl
+    back (Err why) = ap Err (refusal_back why)
+
+pub ecn_one : (x y : Option EcnCodepoint) (n : ℕ) → ecn_read_of x ≡ n → ecn_read_of y ≡ n → x ≡ y
 ecn_one = one_by ecn_read_of read_by back
   where
-    read_by : ℕ → EcnRead
+    read_by : ℕ → Option EcnCodepoint
     read_by n =
-        cond (eqb n 0b00) ecn_read.Nothing
-        (ecn_read.Ecn (cond (eqb n 0b10) ecn.Ect0 (cond (eqb n 0b01) ecn.Ect1 ecn.Ce)))
+        cond (eqb n 0b00) None
+        (Some (cond (eqb n 0b10) ecn.Ect0 (cond (eqb n 0b01) ecn.Ect1 ecn.Ce)))
 
-    back : (r : EcnRead) → read_by (ecn_read_of r) ≡ r
-    back (ecn_read.Ecn ecn.Ect0) = refl
-    back (ecn_read.Ecn ecn.Ect1) = refl
-    back (ecn_read.Ecn ecn.Ce) = refl
-    back ecn_read.Nothing = refl
+    back : (r : Option EcnCodepoint) → read_by (ecn_read_of r) ≡ r
+    back (Some ecn.Ect0) = refl
+    back (Some ecn.Ect1) = refl
+    back (Some ecn.Ce) = refl
+    back None = refl
 
 pub side_one : (x y : Side) (n : ℕ) → side_bit x ≡ n → side_bit y ≡ n → x ≡ y
 side_one = one_by side_bit (λ n. cond (eqb n 0) side.Client side.Server) back
@@ -66,10 +78,10 @@ dir_one = one_by dir_bit (λ n. cond (eqb n 0) dir.Bi dir.Uni) back
     back dir.Bi = refl
     back dir.Uni = refl
 
-pub stream_one : (x y : StreamMade) (g : Answer ℕ) → stream_of x ≡ g → stream_of y ≡ g → x ≡ y
+pub stream_one : (x y : Result StreamId Refusal) (g : Answer ℕ) → stream_of x ≡ g → stream_of y ≡ g → x ≡ y
 unfolding stream_of
-stream_one = one_by stream_of (answered (λ k. made.Refused (refusal_of k)) (λ v. made.Stream (record { 0 = v }))) back
+stream_one = one_by stream_of (answered (λ k. Err (refusal_of k)) (λ v. Ok (record { 0 = v }))) back
   where
-    back : (r : StreamMade) → answered (λ k. made.Refused (refusal_of k)) (λ v. made.Stream (record { 0 = v })) (stream_of r) ≡ r
-    back (made.Stream id) = refl
-    back (made.Refused why) = ap made.Refused (refusal_back why)
+    back : (r : Result StreamId Refusal) → answered (λ k. Err (refusal_of k)) (λ v. Ok (record { 0 = v })) (stream_of r) ≡ r
+    back (Ok id) = refl
+    back (Err why) = ap Err (refusal_back why)

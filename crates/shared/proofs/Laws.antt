@@ -1,11 +1,9 @@
 -- Laws of the definitions, for this crate's proofs and those above it.
-use mathlib.Core.Path.{◌≡◌, refl, ap}
-use mathlib.Core.List.{List, [], ◌∷◌, ◌++◌}
-use Prim.Native.Nat.{ℕ, zero, suc, ◌+◌, ◌-◌, ◌*◌, ◌/◌, ◌%◌, ◌^◌, ◌≤◌, ◌<◌}
-use native.Mathlib.Nat.{not-suc-le-zero, le_of_suc-le-suc}
-use native.Mathlib.Numerals.{add-one}
+use mathlib.Core.Path.{◌≡◌, ap}
+use mathlib.Core.List.{List, [], ◌∷◌}
+use Prim.Native.Nat.{ℕ, ◌+◌, ◌*◌, ◌/◌, ◌%◌, ◌^◌, ◌≤◌, ◌<◌}
 use native.Mathlib.Omega.{arith}
-use lib.ListN.{length, take, drop, get_or, set, replicate, length-take}
+use lib.ListN.{length, take, drop, length-take}
 use lib.Dec.{leb}
 use borrow.Author.Tests.{leb-true, le-leb, lt-leb, lt-ltb}
 use Rattle.coding.specs.Words.{Got, cut, got, no, ok}
@@ -18,20 +16,6 @@ use Rattle.coding.proofs.Rules.{if_all, then_all}
 use Rattle.shared.specs.Cid.{long_cid_at, cid_bytes, long_bytes, long_out, cid_put, long_put}
 use Rattle.shared.specs.Streams.{initiator_of, dir_of, index_of, stream_id, stream_made}
 use Rattle.shared.specs.declared.cid.ConnectionId.{ConnectionId}
-
--- ---- an array of zeros that is filled from its front
-
-fill_suc : (l : List ℕ) (i k : ℕ) → i < length l → set (take i l ++ replicate (suc k) 0) i (get_or l i 0) ≡ take (suc i) l ++ replicate k 0
-fill_suc [] i k h = absurd (not-suc-le-zero h)
-fill_suc (x ∷ l) zero k h = refl
-fill_suc (x ∷ l) (suc i) k h = ap (λ (t : List ℕ). x ∷ t) (fill_suc l i k (le_of_suc-le-suc h))
-
--- one byte more
-pub fill_more : (l all : List ℕ) (i n : ℕ) → i < length l → i < n → all ≡ take i l ++ replicate (n - i) 0
-    → set all i (get_or l i 0) ≡ take (i + 1) l ++ replicate (n - (i + 1)) 0
-fill_more l all i n h k e =
-    let m : suc (n - (i + 1)) ≡ n - i = omega arith in
-    rw (e, ← m, add-one) (fill_suc l i (n - suc i) h)
 
 -- ---- where a CID stands
 

@@ -3,10 +3,10 @@ use mathlib.Core.Path.{◌∙◌, sym}
 use mathlib.Core.List.{List}
 use Prim.Native.Nat.{ℕ}
 use Rattle.coding.specs.Once.{Once}
-use Rattle.coding.specs.declared.Wrote.{Wrote}
-use Rattle.coding.proofs.Inverse.{place_one}
+use Rattle.std.proofs.Common.{Result}
+use Rattle.coding.specs.declared.refusal.Refusal.{Refusal}
 use Rattle.coding.proofs.Onces.{one_put, one_written}
-use Rattle.shared.proofs.Inverse.{cid_one, ecn_one, side_one, dir_one, stream_one}
+use Rattle.shared.proofs.Inverse.{found_one, cid_made_one, cid_read_one, ecn_one, side_one, dir_one, stream_one}
 use Rattle.shared.specs.contracts.cid.long_place as long_place
 use Rattle.shared.proofs.cid.long_place.Reads as long_place_reads
 use Rattle.shared.specs.contracts.cid.ConnectionId.empty as empty
@@ -33,10 +33,12 @@ use Rattle.shared.specs.contracts.kinds.Side.is_client as is_client
 use Rattle.shared.proofs.kinds.Side.is_client.Reads as is_client_reads
 use Rattle.shared.specs.contracts.kinds.Side.is_server as is_server
 use Rattle.shared.proofs.kinds.Side.is_server.Reads as is_server_reads
-use Rattle.shared.specs.contracts.kinds.Side.not as not
-use Rattle.shared.proofs.kinds.Side.not.Reads as not_reads
-use Rattle.shared.specs.contracts.kinds.Dir.bit as bit
-use Rattle.shared.proofs.kinds.Dir.bit.Reads as bit_reads
+use Rattle.shared.specs.contracts.kinds.SideNot.not as not
+use Rattle.shared.proofs.kinds.SideNot.not.Reads as not_reads
+use Rattle.shared.specs.contracts.kinds.U64FromSide.from as side_from
+use Rattle.shared.proofs.kinds.U64FromSide.from.Reads as side_from_reads
+use Rattle.shared.specs.contracts.kinds.U64FromDir.from as dir_from
+use Rattle.shared.proofs.kinds.U64FromDir.from.Reads as dir_from_reads
 use Rattle.shared.specs.contracts.kinds.StreamId.new as stream_new
 use Rattle.shared.proofs.kinds.StreamId.new.Reads as stream_new_reads
 use Rattle.shared.specs.contracts.kinds.StreamId.initiator as initiator
@@ -50,7 +52,7 @@ use Rattle.shared.proofs.kinds.StreamId.index.Reads as index_reads
 
 long_place_once : Once long_place.ended long_place_reads.Post (λ κs x s. x)
 unfolding Once
-long_place_once κs a x y s t p q = place_one x y _ p q
+long_place_once κs a x y s t p q = found_one x y _ p q
 
 empty_once : Once empty.ended empty_reads.Post (λ κs x s. x)
 unfolding Once
@@ -62,15 +64,15 @@ at_once κs a x y s t p q = p ∙ sym q
 
 cid_new_once : Once cid_new.ended cid_new_reads.Post (λ κs x s. x)
 unfolding Once
-cid_new_once κs a x y s t p q = cid_one x y _ p q
+cid_new_once κs a x y s t p q = cid_made_one x y _ p q
 
 from_buf_once : Once from_buf.ended from_buf_reads.Post (λ κs x s. x)
 unfolding Once
-from_buf_once κs a x y s t p q = cid_one x y _ p q
+from_buf_once κs a x y s t p q = cid_read_one x y _ p q
 
 decode_long_once : Once decode_long.ended decode_long_reads.Post (λ κs x s. x)
 unfolding Once
-decode_long_once κs a x y s t p q = cid_one x y _ p q
+decode_long_once κs a x y s t p q = cid_read_one x y _ p q
 
 put_bytes_once : Once {B = ℕ × List ℕ} put_bytes.ended put_bytes_reads.Post (λ κs x s. (x, s.1.0.now))
 unfolding Once
@@ -80,7 +82,7 @@ put_long_once : Once {B = ℕ × List ℕ} put_long.ended put_long_reads.Post (�
 unfolding Once
 put_long_once κs a x y s t p q = one_put _ _ _ x y _ _ p q
 
-encode_long_once : Once {B = Wrote × List ℕ} encode_long.ended encode_long_reads.Post (λ κs x s. (x, s.1.0.now))
+encode_long_once : Once {B = Result ℕ Refusal × List ℕ} encode_long.ended encode_long_reads.Post (λ κs x s. (x, s.1.0.now))
 unfolding Once
 encode_long_once κs a x y s t p q = one_written _ _ x y _ _ p q
 
@@ -108,9 +110,13 @@ not_once : Once not.ended not_reads.Post (λ κs x s. x)
 unfolding Once
 not_once κs a x y s t p q = side_one x y _ p q
 
-bit_once : Once bit.ended bit_reads.Post (λ κs x s. x)
+side_from_once : Once side_from.ended side_from_reads.Post (λ κs x s. x)
 unfolding Once
-bit_once κs a x y s t p q = p.0 ∙ sym q.0
+side_from_once κs a x y s t p q = p.0 ∙ sym q.0
+
+dir_from_once : Once dir_from.ended dir_from_reads.Post (λ κs x s. x)
+unfolding Once
+dir_from_once κs a x y s t p q = p.0 ∙ sym q.0
 
 stream_new_once : Once stream_new.ended stream_new_reads.Post (λ κs x s. x)
 unfolding Once

@@ -4,7 +4,7 @@ ghost use Rattle.shared.specs.Ecn.{ecn_bits};
 ghost use Rattle.shared.specs.Said.{ecn_of, ecn_read_of};
 
 // Explicit congestion notification codepoint.
-#[derive(Clone, Copy)]
+#[derive(Clone, Copy, PartialEq, Eq)]
 pub enum EcnCodepoint {
     // ECT(0): an endpoint is ECN-capable
     Ect0,
@@ -14,24 +14,16 @@ pub enum EcnCodepoint {
     Ce,
 }
 
-// A codepoint, or none for the bits 00.
-#[derive(Clone, Copy)]
-pub enum EcnRead {
-    Ecn(EcnCodepoint),
-    Nothing,
-}
-
 impl EcnCodepoint {
-    // Create new object from the given bits.
-    pub fn from_bits(x: u8) -> EcnRead
+    // Create new object from the given bits; 00 is none.
+    pub fn from_bits(x: u8) -> Option<EcnCodepoint>
         ensures { ecn_read_of result ≡ ecn_bits x }
     {
-        let bits = x & 3;
-        match bits {
-            0b10 => EcnRead::Ecn(EcnCodepoint::Ect0),
-            0b01 => EcnRead::Ecn(EcnCodepoint::Ect1),
-            0b11 => EcnRead::Ecn(EcnCodepoint::Ce),
-            _ => EcnRead::Nothing,
+        match x & 0b11 {
+            0b10 => Some(EcnCodepoint::Ect0),
+            0b01 => Some(EcnCodepoint::Ect1),
+            0b11 => Some(EcnCodepoint::Ce),
+            _ => None,
         }
     }
 
@@ -39,10 +31,6 @@ impl EcnCodepoint {
     pub fn is_ce(self) -> bool
         ensures { result ≡ eqb (ecn_of self) 3 }
     {
-        match self {
-            EcnCodepoint::Ect0 => false,
-            EcnCodepoint::Ect1 => false,
-            EcnCodepoint::Ce => true,
-        }
+        self == EcnCodepoint::Ce
     }
 }

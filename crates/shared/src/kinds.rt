@@ -5,105 +5,96 @@ ghost use Rattle.shared.specs.Said.{side_bit, dir_bit, stream_of};
 
 use crate::types;
 use coding::Refusal;
+use std::ops::Not;
 
 // Whether an endpoint was the initiator of a connection.
-#[derive(Clone, Copy)]
+#[derive(Clone, Copy, PartialEq, Eq)]
 pub enum Side {
-    Client,
-    Server,
+    Client = 0,
+    Server = 1,
 }
 
 // Whether a stream communicates data in both directions or only from the initiator.
-#[derive(Clone, Copy)]
+#[derive(Clone, Copy, PartialEq, Eq)]
 pub enum Dir {
-    Bi,
-    Uni,
+    Bi = 0,
+    Uni = 1,
 }
+
+// A stream's index has 60 bits.
+const INDEX_END: u64 = 1 << 60;
 
 // Identifier for a stream within a particular connection.
-#[derive(Clone, Copy)]
+#[derive(Clone, Copy, PartialEq, Eq)]
 pub struct StreamId(pub u64);
 
-// A stream id, or a refusal.
-#[derive(Clone, Copy)]
-pub enum StreamMade {
-    Stream(StreamId),
-    Refused(Refusal),
-}
-
 // A frame's type.
-#[derive(Clone, Copy)]
+#[derive(Clone, Copy, PartialEq, Eq)]
 pub struct FrameType(pub u64);
 
 // A full packet number.
-#[derive(Clone, Copy)]
+#[derive(Clone, Copy, PartialEq, Eq)]
 pub struct FullNumber(pub u64);
 
 // A cut packet number: its length in bytes, 1 to 4, and its value, below 2^(8 length).
-#[derive(Clone, Copy)]
+#[derive(Clone, Copy, PartialEq, Eq)]
 pub struct CutNumber(pub usize, pub u32);
 
 impl Side {
     pub fn is_client(self) -> bool
         ensures { result ≡ eqb (side_bit self) 0 }
     {
-        match self {
-            Side::Client => true,
-            Side::Server => false,
-        }
+        self == Side::Client
     }
 
     pub fn is_server(self) -> bool
         ensures { result ≡ eqb (side_bit self) 1 }
     {
-        match self {
-            Side::Client => false,
-            Side::Server => true,
-        }
+        self == Side::Server
     }
+}
 
-    // The other side.
-    pub fn not(self) -> Side
-        ensures { side_bit result ≡ 1 - side_bit self }
-    {
+// The other side.
+impl Not for Side {
+    type Output = Side;
+
+    ghost not_gives = { λ side other. side_bit other ≡ 1 - side_bit side };
+
+    fn not(self) -> Side {
         match self {
             Side::Client => Side::Server,
             Side::Server => Side::Client,
         }
     }
+}
 
-    fn bit(self) -> u64
-        ensures { (result ≡ side_bit self) × (result ≤ 1) }
-    {
-        match self {
-            Side::Client => 0,
-            Side::Server => 1,
-        }
+// Its bit in a stream id.
+impl From<Side> for u64 {
+    ghost from_gives = { λ side bit. (bit ≡ side_bit side) × (bit ≤ 1) };
+
+    fn from(side: Side) -> u64 {
+        side as u64
     }
 }
 
-impl Dir {
-    // 0 both ways, 1 one way.
-    pub fn bit(self) -> u64
-        ensures { (result ≡ dir_bit self) × (result ≤ 1) }
-    {
-        match self {
-            Dir::Bi => 0,
-            Dir::Uni => 1,
-        }
+// 0 both ways, 1 one way.
+impl From<Dir> for u64 {
+    ghost from_gives = { λ dir bit. (bit ≡ dir_bit dir) × (bit ≤ 1) };
+
+    fn from(dir: Dir) -> u64 {
+        dir as u64
     }
 }
 
 impl StreamId {
-    // Create a new StreamId; it has 62 bits, so the index has 60.
-    pub fn new(initiator: Side, dir: Dir, index: u64) -> StreamMade
+    // Create a new StreamId, of 62 bits.
+    pub fn new(initiator: Side, dir: Dir, index: u64) -> Result<StreamId, Refusal>
         ensures { stream_of result ≡ stream_made (side_bit initiator) (dir_bit dir) index }
     {
-        if index < 0x1000_0000_0000_0000 {
-            StreamMade::Stream(StreamId(index * 4 + dir.bit() * 2 + initiator.bit()))
-        } else {
-            StreamMade::Refused(Refusal::Argument)
+        if INDEX_END <= index {
+            return Err(Refusal::Argument);
         }
+        Ok(StreamId(index * 4 + u64::from(dir) * 2 + u64::from(initiator)))
     }
 
     // Which side of a connection initiated the stream.

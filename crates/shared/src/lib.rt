@@ -11,6 +11,6 @@ pub mod types; // types.rt: the frame types' numbers, for a match
 pub use bits::{
     FIXED_BIT, KEY_PHASE_BIT, LONG_HEADER_FORM, LONG_RESERVED_BITS, SHORT_RESERVED_BITS, SPIN_BIT,
 };
-pub use cid::{CidAnswer, CidRead, ConnectionId, MAX_CID_SIZE, long_place};
-pub use codepoint::{EcnCodepoint, EcnRead};
-pub use kinds::{CutNumber, Dir, FrameType, FullNumber, Side, StreamId, StreamMade};
+pub use cid::{ConnectionId, MAX_CID_SIZE, long_place};
+pub use codepoint::EcnCodepoint;
+pub use kinds::{CutNumber, Dir, FrameType, FullNumber, Side, StreamId};

@@ -1,12 +1,12 @@
-use Rattle.shared.specs.Cid.{cid_new}
-use Rattle.shared.specs.Said.{cid_read_of, cid_answer_of}
+use Rattle.shared.specs.Cid.{cid_new, cid_of}
+use Rattle.shared.specs.Said.{cid_made_of}
 use Rattle.shared.proofs.Rules.{cid_ways}
 use Rattle.shared.proofs.cid.ConnectionId.new.Goals as goal
 
 pub returns-then-bytes-gt-MAX_CID_SIZE : goal.returns-then-bytes-gt-MAX_CID_SIZE
-unfolding cid_new
+unfolding cid_new cid_made_of
 returns-then-bytes-gt-MAX_CID_SIZE c = search cid_ways
 
 pub returns : goal.returns
-unfolding cid_new cid_read_of cid_answer_of
-returns c = search cid_ways
+unfolding cid_new cid_made_of cid_of
+returns c = rw c.filled.ensures (search cid_ways)

@@ -3,10 +3,10 @@ use Rattle.shared.specs.Said.{stream_of}
 use borrow.Author.Tests.{lt-ltb, le-ltb}
 use Rattle.shared.proofs.kinds.StreamId.new.Goals as goal
 
-pub returns-then-index-lt1152921504606846976 : goal.returns-then-index-lt1152921504606846976
-unfolding stream_of stream_made stream_id
-returns-then-index-lt1152921504606846976 c = rw (lt-ltb _ _ c.if-index-lt1152921504606846976.true, c.bit.ensures.0, c.bit-then-index-lt1152921504606846976.ensures.0)
-
-pub returns-else-index-lt1152921504606846976 : goal.returns-else-index-lt1152921504606846976
+pub returns-then-index-ge-INDEX_END : goal.returns-then-index-ge-INDEX_END
 unfolding stream_of stream_made
-returns-else-index-lt1152921504606846976 c = rw (le-ltb _ _ c.if-index-lt1152921504606846976.false)
+returns-then-index-ge-INDEX_END c = rw (le-ltb _ _ c.if-index-ge-INDEX_END.true)
+
+pub returns : goal.returns
+unfolding stream_of stream_made stream_id
+returns c = rw (lt-ltb _ _ c.if-index-ge-INDEX_END.false, c.from.ensures.0, c.from-2.ensures.0)
