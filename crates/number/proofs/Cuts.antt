@@ -114,9 +114,9 @@ module _ (c : CutNumber) where
 -- ---- bytes
 
 -- a put of as many bytes as it has
-pub put_length : (c : CutNumber) {n : ℕ} {old new : List ℕ} {at next : ℕ} → is_cut c ≡ true → c.0 ≡ n → Put (bytes_be n c.1) old at next new
+pub put_length : (c : CutNumber) {n x : ℕ} {old new : List ℕ} {at next : ℕ} → is_cut c ≡ true → c.0 ≡ n → x ≡ c.1 → Put (bytes_be n x) old at next new
     → Put (cut_put c) old at next new
-put_length c i e p = rw (put_in c i, e) p
+put_length c i e v p = rw (put_in c i, e, ← v) p
 
 module _ (k : ℕ) (bs : List ℕ) where
   pub read_few : k < 1 → no 14 ≡ cut_read k bs

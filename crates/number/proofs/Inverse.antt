@@ -1,62 +1,37 @@
 -- Each map from the code's answers to the paper's words has an inverse: what is said settles the answer.
-use mathlib.Core.Path.{◌≡◌, refl, ap}
 use Prim.Native.Nat.{ℕ}
-use Rattle.coding.specs.Words.{Answer, no, ok}
+use Rattle.std.specs.Prelude.{Option, Some, None, Result, Ok, Err}
+use mathlib.Core.Path.{◌≡◌, refl, ap, ◌∙◌}
+use Rattle.coding.specs.Words.{Answer}
+use Rattle.coding.specs.declared.refusal.Refusal.{Refusal}
 use Rattle.coding.proofs.Numbers.{refusal_of, refusal_back}
 use Rattle.coding.proofs.Inverse.{one_by, answered}
 use Rattle.shared.specs.declared.kinds.CutNumber.{CutNumber}
+use Rattle.shared.specs.declared.kinds.FullNumber.{FullNumber}
 use Rattle.number.specs.Ends.{SoFar, none, at, Ends, Packet, Call}
-use Rattle.number.specs.Said.{cut_made_of, tag_of, full_of, so_far_of, ends_of, sent_of, kept_of}
-use Rattle.number.specs.declared.CutMade.{CutMade}
-use Rattle.number.specs.declared.CutMade.TheVariants as made
-use Rattle.number.specs.declared.Tagged.{Tagged}
-use Rattle.number.specs.declared.Tagged.TheVariants as tagged
-use Rattle.number.specs.declared.FullRead.{FullRead}
-use Rattle.number.specs.declared.FullRead.TheVariants as full
-use Rattle.number.specs.declared.ends.Largest.{Largest}
-use Rattle.number.specs.declared.ends.Largest.TheVariants as largest
+use Rattle.number.specs.Said.{full_of, so_far_of, ends_of, sent_of, kept_of}
 use Rattle.number.specs.declared.ends.Space.{Space}
-use Rattle.number.specs.declared.ends.SendAnswer.{SendAnswer}
-use Rattle.number.specs.declared.ends.SendAnswer.TheVariants as send
-use Rattle.number.specs.declared.ends.SpaceAnswer.{SpaceAnswer}
-use Rattle.number.specs.declared.ends.SpaceAnswer.TheVariants as space
 
-pub made_one : (x y : CutMade) (g : Answer CutNumber) → cut_made_of x ≡ g → cut_made_of y ≡ g → x ≡ y
-unfolding cut_made_of
-made_one = one_by cut_made_of (answered (λ k. made.Refused (refusal_of k)) made.Cut) back
-  where
-    back : (r : CutMade) → answered (λ k. made.Refused (refusal_of k)) made.Cut (cut_made_of r) ≡ r
-    back (made.Cut c) = refl
-    back (made.Refused why) = ap made.Refused (refusal_back why)
-
-pub tag_one : (x y : Tagged) (g : Answer ℕ) → tag_of x ≡ g → tag_of y ≡ g → x ≡ y
-unfolding tag_of
-tag_one = one_by tag_of (answered (λ k. tagged.Refused (refusal_of k)) tagged.Tag) back
-  where
-    back : (r : Tagged) → answered (λ k. tagged.Refused (refusal_of k)) tagged.Tag (tag_of r) ≡ r
-    back (tagged.Tag t) = refl
-    back (tagged.Refused why) = ap tagged.Refused (refusal_back why)
-
-pub full_one : (x y : FullRead) (g : Answer ℕ) → full_of x ≡ g → full_of y ≡ g → x ≡ y
+pub full_one : (x y : Result FullNumber Refusal) (g : Answer ℕ) → full_of x ≡ g → full_of y ≡ g → x ≡ y
 unfolding full_of
-full_one = one_by full_of (answered (λ k. full.Refused (refusal_of k)) (λ n. full.Number (record { 0 = n }))) back
+full_one = one_by full_of (answered (λ k. Err (refusal_of k)) (λ n. Ok (record { 0 = n }))) back
   where
-    back : (r : FullRead) → answered (λ k. full.Refused (refusal_of k)) (λ n. full.Number (record { 0 = n })) (full_of r) ≡ r
-    back (full.Number n) = refl
-    back (full.Refused why) = ap full.Refused (refusal_back why)
+    back : (r : Result FullNumber Refusal) → answered (λ k. Err (refusal_of k)) (λ n. Ok (record { 0 = n })) (full_of r) ≡ r
+    back (Ok n) = refl
+    back (Err why) = ap Err (refusal_back why)
 
 -- the code's record of a paper's
-abbrev largest_at : SoFar → Largest
-largest_at none = largest.Nothing
-largest_at (at m) = largest.At (record { 0 = m })
+abbrev largest_at : SoFar → Option FullNumber
+largest_at none = None
+largest_at (at m) = Some (record { 0 = m })
 
 abbrev pub space_of : Ends → Space
 space_of e = record { next = record { 0 = e.next }; acked = largest_at e.acked; largest = largest_at e.largest }
 
-largest_back : (l : Largest) → largest_at (so_far_of l) ≡ l
+largest_back : (l : Option FullNumber) → largest_at (so_far_of l) ≡ l
 unfolding so_far_of
-largest_back largest.Nothing = refl
-largest_back (largest.At m) = refl
+largest_back None = refl
+largest_back (Some m) = refl
 
 pub space_back : (s : Space) → space_of (ends_of s) ≡ s
 space_back s i = record { next = s.next; acked = largest_back s.acked i; largest = largest_back s.largest i }
@@ -64,26 +39,30 @@ space_back s i = record { next = s.next; acked = largest_back s.acked i; largest
 pub space_one : (x y : Space) (g : Ends) → ends_of x ≡ g → ends_of y ≡ g → x ≡ y
 space_one = one_by ends_of space_of space_back
 
-abbrev sent_back : Ends → Answer Packet → SendAnswer
-sent_back e (no k) = send.Refused (refusal_of k) (space_of e)
-sent_back e (ok p) = send.Sent (record { 0 = p.number }) p.carries (space_of e)
+-- an answer and the record afterwards, as one value
+module _ {A B : Type 0} (said : Result A Refusal → Space → Call B) (back : Answer B → Result A Refusal)
+    (same : (r : Result A Refusal) (s : Space) → (back (said r s).says ≡ r) × ((said r s).leaves ≡ ends_of s)) where
+  one_call : (x y : Result A Refusal × Space) (g : Call B) → said x.0 x.1 ≡ g → said y.0 y.1 ≡ g → x ≡ y
+  one_call = one_by (λ x. said x.0 x.1) (λ g. (back g.says, space_of g.leaves)) (λ (r, s) i. ((same r s).0 i, (ap space_of (same r s).1 ∙ space_back s) i))
 
-pub sent_one : (x y : SendAnswer) (g : Call Packet) → sent_of x ≡ g → sent_of y ≡ g → x ≡ y
+abbrev sent_back : Answer Packet → Result (FullNumber × CutNumber) Refusal
+sent_back = answered (λ k. Err (refusal_of k)) (λ p. Ok (record { 0 = p.number }, p.carries))
+
+pub sent_one : (x y : Result (FullNumber × CutNumber) Refusal × Space) (g : Call Packet) → sent_of x.0 x.1 ≡ g → sent_of y.0 y.1 ≡ g → x ≡ y
 unfolding sent_of
-sent_one = one_by sent_of (λ g. sent_back g.leaves g.says) back
+sent_one = one_call sent_of sent_back same
   where
-    back : (r : SendAnswer) → sent_back (sent_of r).leaves (sent_of r).says ≡ r
-    back (send.Sent n c s) = ap (send.Sent n c) (space_back s)
-    back (send.Refused why s) = λ i. send.Refused (refusal_back why i) (space_back s i)
+    same : (r : Result (FullNumber × CutNumber) Refusal) (s : Space) → (sent_back (sent_of r s).says ≡ r) × ((sent_of r s).leaves ≡ ends_of s)
+    same (Ok p) s = (refl, refl)
+    same (Err why) s = (ap Err (refusal_back why), refl)
 
-abbrev kept_back : Ends → Answer Unit → SpaceAnswer
-kept_back e (no k) = space.Refused (refusal_of k) (space_of e)
-kept_back e (ok u) = space.Done (space_of e)
+abbrev kept_back : Answer Unit → Result Unit Refusal
+kept_back = answered (λ k. Err (refusal_of k)) Ok
 
-pub kept_one : (x y : SpaceAnswer) (g : Call Unit) → kept_of x ≡ g → kept_of y ≡ g → x ≡ y
+pub kept_one : (x y : Result Unit Refusal × Space) (g : Call Unit) → kept_of x.0 x.1 ≡ g → kept_of y.0 y.1 ≡ g → x ≡ y
 unfolding kept_of
-kept_one = one_by kept_of (λ g. kept_back g.leaves g.says) back
+kept_one = one_call kept_of kept_back same
   where
-    back : (r : SpaceAnswer) → kept_back (kept_of r).leaves (kept_of r).says ≡ r
-    back (space.Done s) = ap space.Done (space_back s)
-    back (space.Refused why s) = λ i. space.Refused (refusal_back why i) (space_back s i)
+    same : (r : Result Unit Refusal) (s : Space) → (kept_back (kept_of r s).says ≡ r) × ((kept_of r s).leaves ≡ ends_of s)
+    same (Ok u) s = (refl, refl)
+    same (Err why) s = (ap Err (refusal_back why), refl)

@@ -1,15 +1,18 @@
 -- Laws of the four windows, over the width.
-use Prim.Native.Nat.{ℕ, zero, suc, ◌+◌, ◌-◌, ◌*◌, ◌/◌, ◌%◌, ◌^◌, ◌≤◌, ◌<◌}
+use Prim.Native.Nat.{ℕ, zero, suc, ◌+◌, ◌-◌, ◌*◌, ◌^◌, ◌≤◌, ◌<◌}
+use Rattle.std.specs.Prelude.{Some, None, if◌then◌else◌}
+use native.Mathlib.Numerals.{add-one}
 use mathlib.Core.Path.{◌≡◌, refl, sym, ap, ◌∙◌}
 use mathlib.Core.Bool.{Bool, true, false}
 use mathlib.Core.Logic.{◌⊎◌, inl, inr, ⊎_elim}
-use native.Mathlib.Nat.{two-pow-succ, pow-succ', div-eq_of_lt, div-add-mod', mod-lt}
+use native.Mathlib.Nat.{two-pow-succ, pow-succ'}
 use native.Mathlib.Omega.{arith}
 use lib.Dec.{leb, ltb, eqb}
 use lib.Pow.{pow_mono, pow-add}
-use borrow.Author.Tests.{leb-true, leb-false, ltb-true, ltb-false, lt-ltb, le-ltb, eq-eqb, ne_eqb}
+use borrow.Author.Tests.{leb-true, leb-false, ltb-true, ltb-false, eqb-true, eqb-false, lt-ltb, le-ltb, ne_eqb}
 use Rattle.shared.specs.declared.kinds.CutNumber.{CutNumber}
 use Rattle.number.specs.Cutting.{window_of, is_cut, first_fit, bytes_for}
+use Rattle.number.specs.Said.{fitting}
 
 -- which of two tests holds, with the fact
 pub le? : (a b : ℕ) → (a ≤ b) ⊎ (b < a)
@@ -88,35 +91,6 @@ cut_rule c e =
     let v : c.1 < window_of c.0 = ltb-true _ _ e in
     record { window = window_some c.0 (omega arith); value = v }
 
--- and how it is tested: no value past the window
-no_more : (v w : ℕ) → 0 < w → eqb (v / w) 0 ≡ ltb v w
-no_more v w p =
-    ⊎_elim
-    (λ a. ne_eqb (v / w) 0 (λ z. absurd (omega (arith, a, small z))) ∙ sym (le-ltb v w a))
-    (λ a. eq-eqb (v / w) 0 (div-eq_of_lt a) ∙ sym (lt-ltb v w a))
-    (le? w v)
-  where
-    small : v / w ≡ 0 → v < w
-    small z =
-        let e : v / w * w + v % w ≡ v = div-add-mod' v w in
-        let f : 0 * w + v % w ≡ v = rw z at e in
-        omega (arith, f, mod-lt v p)
-
-module _ (c : CutNumber) where
-  pub cut_few : c.0 < 1 → is_cut c ≡ false
-  unfolding is_cut
-  cut_few p = rw (window_low c.0 p) (le-ltb c.1 0 (omega arith))
-
-  pub cut_many : 4 < c.0 → is_cut c ≡ false
-  unfolding is_cut
-  cut_many p = rw (window_high c.0 p) (le-ltb c.1 0 (omega arith))
-
-  pub cut_test : 1 ≤ c.0 → c.0 ≤ 4 → eqb (c.1 / 2 ^ (8 * c.0)) 0 ≡ is_cut c
-  unfolding is_cut
-  cut_test p q =
-      let w = window_made c.0 p q in
-      rw w.is (no_more c.1 (2 ^ (8 * c.0)) (omega (arith, w)))
-
 -- ---- 17.1: the fewest of the lengths from low on with more than t values
 
 pub record Fit (low k t : ℕ) : Type 0 where
@@ -146,6 +120,35 @@ fit (suc m) low t p some = go (ltb t (2 ^ (8 * low))) refl (fit m (suc low) t (o
               (λ z. r.fewest j z y)
               (le? j low);
         })
+
+-- a test of one length, and where it does not have more values, the next
+module _ (k t : ℕ) (h : k < 5) where
+  first_next : first_fit (5 - k) k t ≡ (if ltb t (2 ^ (8 * k)) then k else first_fit (5 - (k + 1)) (k + 1) t)
+  first_next = let e : 5 - k ≡ suc (5 - (k + 1)) = omega arith in rw (e, add-one)
+
+  pub first_here : t < 2 ^ (8 * k) → first_fit (5 - k) k t ≡ k
+  first_here p = first_next ∙ simp (lt-ltb _ _ p)
+
+  pub first_on : 2 ^ (8 * k) ≤ t → first_fit (5 - k) k t ≡ first_fit (5 - (k + 1)) (k + 1) t
+  first_on p = first_next ∙ simp (le-ltb _ _ p)
+
+-- a length that was found, or none
+pub fitting_some : (k : ℕ) → 1 ≤ k → fitting k ≡ Some k
+fitting_some k p = simp (ne_eqb k 0 (λ z. omega arith))
+
+pub fitting_is : (k t : ℕ) → Some k ≡ fitting t → (k ≡ t) × (k ≡ 0 → ⊥)
+fitting_is k t e = go (eqb t 0) refl
+  where
+    go : (b : Bool) → eqb t 0 ≡ b → (k ≡ t) × (k ≡ 0 → ⊥)
+    go true z = let q : Some k ≡ None = e ∙ simp z in absurd cc
+    go false z = let q : Some k ≡ Some t = e ∙ simp z in let s : k ≡ t = cc in (s, λ x. eqb-false t 0 z (sym s ∙ x))
+
+pub fitting_none : (t : ℕ) → None ≡ fitting t → t ≡ 0
+fitting_none t e = go (eqb t 0) refl
+  where
+    go : (b : Bool) → eqb t 0 ≡ b → t ≡ 0
+    go true z = eqb-true t 0 z
+    go false z = let q : None ≡ Some t = e ∙ simp z in absurd cc
 
 pub bytes_fit : (t : ℕ) → (bytes_for t ≡ 0 → ⊥) → Fit 1 (bytes_for t) t
 unfolding bytes_for

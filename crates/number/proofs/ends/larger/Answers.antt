@@ -1,16 +1,17 @@
-use borrow.Author.Tests.{lt-ltb, le-ltb}
+use Rattle.std.proofs.Common.{rules}
+use Rattle.coding.proofs.Rules.{tests}
 use Rattle.number.specs.Ends.{larger_of}
 use Rattle.number.specs.Said.{so_far_of}
 use Rattle.number.proofs.ends.larger.Goals as goal
 
+pub returns-in-Some : goal.returns-in-Some
+unfolding so_far_of larger_of
+returns-in-Some c = rw c.in-Some.is (search (tests, rules))
+
 pub returns-in_default : goal.returns-in_default
 unfolding so_far_of larger_of
-returns-in_default c = rw c.in_default.is
+returns-in_default c = rw c.in-Some.is (search (tests, rules))
 
-pub returns-then-m-n : goal.returns-then-m-n
+pub returns-in_default-2 : goal.returns-in_default-2
 unfolding so_far_of larger_of
-returns-then-m-n c = simp (c.in-At.is, lt-ltb _ _ c.if-m-n.true)
-
-pub returns-else-m-n : goal.returns-else-m-n
-unfolding so_far_of larger_of
-returns-else-m-n c = simp (c.in-At.is, le-ltb _ _ c.if-m-n.false)
+returns-in_default-2 c = rw c.in_default.is
