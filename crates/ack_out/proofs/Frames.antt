@@ -5,6 +5,7 @@ use mathlib.Core.List.{List, [], ◌∷◌, ◌++◌, append_assoc, append-nil}
 use mathlib.Core.Bool.{Bool, true, false}
 use mathlib.Core.Option.{Option, none, some}
 use Prim.Native.Nat.{ℕ, zero, suc, ◌+◌, ◌-◌, ◌*◌, ◌/◌, ◌≤◌, ◌<◌, ◌^◌}
+use native.Mathlib.Numerals.{add-one}
 use native.Mathlib.Omega.{arith}
 use lib.Dec.{leb}
 use lib.ListN.{length, length-append}
@@ -37,9 +38,8 @@ pub steps_below : (l : List ℕ) (n : ℕ) → Kept l → n < length l → below
 unfolding below62
 steps_below l zero k h = refl
 steps_below l (suc n) k h =
-    let e : suc n - 1 ≡ n = omega arith in
-    let s = stepped l (suc n) k (omega arith) h in
-    cons_below (at l (suc n) - at l n - 1) (steps l n) (rw e at s.small) (steps_below l n k (omega arith))
+    let s = stepped l n k (omega arith) in
+    cons_below (at l (suc n) - at l n - 1) (steps l n) (rw add-one at s.small) (steps_below l n k (omega arith))
 
 pub vars_least : (xs : List ℕ) → length xs ≤ length (vars_bytes xs)
 unfolding vars_bytes

@@ -1,14 +1,15 @@
 -- What the list's rule gives, and the blocks as the differences of neighbours in the list.
 use Rattle.std.specs.Prelude.{if◌then◌else◌}
-use mathlib.Core.Path.{◌≡◌, refl}
+use Rattle.std.specs.List.{IsAllAdjacentAnswer}
+use native.Mathlib.Numerals.{add-one}
+use mathlib.Core.Path.{◌≡◌, refl, sym}
 use mathlib.Core.List.{List, [], ◌∷◌, ◌++◌}
 use mathlib.Core.Bool.{Bool, true, false}
 use Prim.Native.Nat.{ℕ, zero, suc, ◌+◌, ◌-◌, ◌*◌, ◌/◌, ◌%◌, ◌≤◌, ◌<◌, ◌^◌}
 use native.Mathlib.Omega.{arith}
 use lib.Dec.{ltb, leb, eqb}
-use lib.ListN.{length, get_or, drop, length-drop}
-use lib.Seq.{drop-cons}
-use borrow.Author.Tests.{ltb-false, leb-false, eqb-false, le-leb, lt-leb}
+use lib.ListN.{length, get_or}
+use borrow.Author.Tests.{ltb-true, ltb-false, leb-false, eqb-false, le-leb, lt-leb}
 use Rattle.coding.specs.Varint.{var_bytes}
 use Rattle.row_out.specs.Limits.{vars_bytes}
 use Rattle.ack_out.specs.Acks.{ascends, is_ranges, range_at, ranges_of, all_ranges, round_numbers, block_numbers}
@@ -106,48 +107,47 @@ blocks_of l n k half =
       numbers = rw (half, last, f, block_same (at l (2 * n)) (at l (suc (2 * n))), steps_rounds l n k.up (omega arith));
     }
 
+-- ---- what the code's test says of neighbours
+
+all_rise : (l : List ℕ) → ((i : ℕ) → suc i < length l → at l i < at l (suc i)) → ascends l ≡ true
+unfolding ascends
+all_rise [] h = refl
+all_rise (a ∷ []) h = refl
+all_rise (a ∷ b ∷ l) h = rw (lt-leb b a (h 0 (omega arith))) (all_rise (b ∷ l) (λ i k. h (suc i) (omega arith)))
+
+one_falls : (l : List ℕ) (i : ℕ) → suc i < length l → at l (suc i) ≤ at l i → ascends l ≡ false
+unfolding ascends
+one_falls [] i h k = absurd (omega arith)
+one_falls (a ∷ []) i h k = absurd (omega arith)
+one_falls (a ∷ b ∷ l) zero h k = rw (le-leb b a k)
+one_falls (a ∷ b ∷ l) (suc i) h k = rw (one_falls (b ∷ l) i (omega arith) k) (go (leb b a))
+  where
+    go : (t : Bool) → (if t then false else false) ≡ false
+    go true = refl
+    go false = refl
+
+pub ascends_by : (l : List ℕ) (r : Bool) → IsAllAdjacentAnswer (λ x y b. b ≡ ltb x y) l r → r ≡ ascends l
+ascends_by l true h = sym (all_rise l (λ i k. ltb-true (at l i) (at l (suc i)) (sym (rw add-one at (h i 0 (omega arith))))))
+ascends_by l false (i, k, h) = sym (one_falls l i (omega arith) (ltb-false (at l i) (at l (suc i)) (sym (rw add-one at (h 0)))))
+
 -- ---- what the loops go by
 
--- the test of two neighbours
-pub ascends_on : (l : List ℕ) (i : ℕ) → i + 1 < length l → at l i < at l (i + 1) → ascends (drop i l) ≡ ascends (drop (i + 1) l)
-unfolding ascends
-ascends_on l i h k =
-    let e : i + 1 ≡ suc i = omega arith in
-    rw (drop-cons l i 0 (omega arith), e, drop-cons l (suc i) 0 (omega arith), lt-leb (at l (suc i)) (at l i) (rw e at k))
-
-pub ascends_not : (l : List ℕ) (i : ℕ) → i + 1 < length l → at l (i + 1) ≤ at l i → ascends (drop i l) ≡ false
-unfolding ascends
-ascends_not l i h k =
-    let e : i + 1 ≡ suc i = omega arith in
-    rw (drop-cons l i 0 (omega arith), drop-cons l (suc i) 0 (omega arith), le-leb (at l (suc i)) (at l i) (rw e at k))
-
-pub ascends_end : (l : List ℕ) (i : ℕ) → length l ≤ i + 1 → ascends (drop i l) ≡ true
-unfolding ascends
-ascends_end l i h = few (drop i l) (rw length-drop (omega arith))
-  where
-    few : (m : List ℕ) → length m ≤ 1 → ascends m ≡ true
-    few [] k = refl
-    few (a ∷ []) k = refl
-    few (a ∷ b ∷ m) k = absurd (omega arith)
-
--- a difference: there is one, and it has a form
+-- the difference above number i: there is one, and it has a form
 pub record Stepped (l : List ℕ) (i : ℕ) : Type 0 where
-  pub above : at l (i - 1) < at l i
-  pub small : at l i - at l (i - 1) - 1 < 2 ^ 62
+  pub above : at l i < at l (i + 1)
+  pub small : at l (i + 1) - at l i - 1 < 2 ^ 62
 
-pub stepped : (l : List ℕ) (i : ℕ) → Kept l → 0 < i → i < length l → Stepped l i
-stepped l zero k h b = absurd (omega arith)
-stepped l (suc i) k h b =
-    let e : suc i - 1 ≡ i = omega arith in
+pub stepped : (l : List ℕ) (i : ℕ) → Kept l → i + 1 < length l → Stepped l i
+stepped l i k b =
     let f : suc i + (length l - 1 - suc i) ≡ length l - 1 = omega arith in
-    let r = rises l i k.up b in
-    let c = climbs l (suc i) (length l - 1 - suc i) k.up (omega arith) in
-    let d : at l (suc i) ≤ at l (length l - 1) = rw f at c in
-    record { above = rw e r; small = omega (arith, k.top) }
+    let r : at l i < at l (i + 1) = rw add-one (rises l i k.up (omega arith)) in
+    let c : at l (suc i) ≤ at l (length l - 1) = rw f at (climbs l (suc i) (length l - 1 - suc i) k.up (omega arith)) in
+    let d : at l (i + 1) ≤ at l (length l - 1) = rw add-one c in
+    record { above = r; small = omega (arith, k.top) }
 
-pub steps_one : (l : List ℕ) (i : ℕ) → 0 < i → steps l i ≡ (at l i - at l (i - 1) - 1) ∷ steps l (i - 1)
+pub steps_one : (l : List ℕ) (i : ℕ) → 0 < i → steps l i ≡ (at l (i - 1 + 1) - at l (i - 1) - 1) ∷ steps l (i - 1)
 steps_one l zero h = absurd (omega arith)
-steps_one l (suc i) h = let e : suc i - 1 ≡ i = omega arith in rw e
+steps_one l (suc i) h = let e : suc i - 1 ≡ i = omega arith in rw (e, add-one)
 
 pub steps_none : (l : List ℕ) (i : ℕ) → i ≤ 0 → steps l i ≡ []
 steps_none l zero h = refl
@@ -157,7 +157,7 @@ steps_none l (suc i) h = absurd (omega arith)
 abbrev pub step_bytes : List ℕ → ℕ → List ℕ
 step_bytes l i = vars_bytes (steps l i)
 
-pub bytes_one : (l : List ℕ) (i x : ℕ) → 0 < i → x ≡ at l i - at l (i - 1) - 1 → step_bytes l i ≡ var_bytes x ++ step_bytes l (i - 1)
+pub bytes_one : (l : List ℕ) (i x : ℕ) → 0 < i → x ≡ at l (i - 1 + 1) - at l (i - 1) - 1 → step_bytes l i ≡ var_bytes x ++ step_bytes l (i - 1)
 unfolding vars_bytes
 bytes_one l i x h e = rw (steps_one l i h, e)
 

@@ -16,9 +16,9 @@ use Rattle.ack_out.proofs.Lists.{at, Kept, blocks_of, step_bytes, bytes_one, byt
 pub blocks_steps : (l : List ℕ) → Kept l → block_bytes (all_ranges l) ≡ step_bytes l (length l - 1)
 blocks_steps l k = ap vars_bytes (blocks_of l (length l / 2 - 1) k (omega arith)).numbers
 
--- number i's difference is x
+-- the difference above number i is x
 abbrev pub Is : List ℕ → ℕ → ℕ → Type 0
-Is l i x = (x ≡ at l i - at l (i - 1) - 1) × (x < 2 ^ 62)
+Is l i x = (x ≡ at l (i + 1) - at l i - 1) × (x < 2 ^ 62)
 
 -- ---- the sum so far, of the differences above number i
 
@@ -31,7 +31,7 @@ module _ (l : List ℕ) where
   pub sum_start : Kept l → Summed l 0 (length l - 1)
   sum_start k = record { inside = omega (arith, k.some); sum = rw (blocks_steps l k) (omega arith); few = omega arith }
 
-  pub sum_on : (len i x : ℕ) → Summed l len i → 0 < i → Is l i x → Summed l (len + var_size x) (i - 1)
+  pub sum_on : (len i x : ℕ) → Summed l len i → 0 < i → Is l (i - 1) x → Summed l (len + var_size x) (i - 1)
   sum_on len i x s h d =
       let b : length (step_bytes l i) ≡ var_size x + length (step_bytes l (i - 1)) =
       ap length (bytes_one l i x h d.0) ∙ simp (length-append, length_var) in
@@ -61,7 +61,7 @@ module _ (l old : List ℕ) (at : ℕ) where
         let f : length (s.done ++ step_bytes l i) ≡ length s.done + length (step_bytes l i) = length-append s.done (step_bytes l i) in
         rw s.so.bytes (length_splice old s.done at (omega arith))
 
-    pub puts_on : (x past : ℕ) (new' : List ℕ) → 0 < i → Is l i x → Put (var_put x) new next past new' → Puts l old at new' past (i - 1)
+    pub puts_on : (x past : ℕ) (new' : List ℕ) → 0 < i → Is l (i - 1) x → Put (var_put x) new next past new' → Puts l old at new' past (i - 1)
     puts_on x past new' h d p =
         let e : s.done ++ (var_bytes x ++ step_bytes l (i - 1)) ≡ block_bytes (all_ranges l) = rw (← bytes_one l i x h d.0) s.all in
         let f : (s.done ++ var_bytes x) ++ step_bytes l (i - 1) ≡ block_bytes (all_ranges l) = rw append_assoc e in

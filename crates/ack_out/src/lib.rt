@@ -19,28 +19,16 @@ use shared::FrameType;
 fn ascends(list: &[u64]) -> bool
     ensures { result ≡ ascends list.now }
 {
-    let mut i = 0;
-    while i + 1 < list.len() {
-        if list[i + 1] <= list[i] {
-            return false;
-        }
-        i += 1;
-    }
-    true
+    list.is_sorted_by(|a, b| *a < *b)
 }
 
 // Whether the list keeps its rule: not empty, no start without an end, the last end at most 2^62, ascending.
+#[tactic(auto, unfolding(crate::specs::Acks::is_ranges))]
 fn is_ranges(list: &[u64]) -> bool
     ensures { result ≡ is_ranges list.now }
 {
     let n = list.len();
-    if n == 0 {
-        return false;
-    }
-    if n % 2 == 1 {
-        return false;
-    }
-    if NUMBER_END < list[n - 1] {
+    if n == 0 || n % 2 == 1 || NUMBER_END < list[n - 1] {
         return false;
     }
     ascends(list)
@@ -57,12 +45,12 @@ fn var_size(x: u64) -> usize
     n
 }
 
-// A gap or a block: number i of the list minus the one before it, less one.
+// A gap or a block: the number after number i of the list minus that one, less one.
 fn step_at(list: &[u64], i: usize) -> u64
-    requires { (is_ranges list.now ≡ true) × ((0 < i) × (i < length list.now)) }
-    ensures { (result ≡ get_or list.now i 0 - get_or list.now (i - 1) 0 - 1) × (result < number_end) }
+    requires { (is_ranges list.now ≡ true) × (i + 1 < length list.now) }
+    ensures { (result ≡ get_or list.now (i + 1) 0 - get_or list.now i 0 - 1) × (result < number_end) }
 {
-    list[i] - list[i - 1] - 1
+    list[i + 1] - list[i] - 1
 }
 
 // The bytes of the blocks.
@@ -71,10 +59,8 @@ fn blocks_len(list: &[u64]) -> usize
     ensures { (result ≡ length (block_bytes (all_ranges list.now))) × (result ≤ 8 * 65527) }
 {
     let mut len = 0;
-    let mut i = list.len() - 1;
-    while 0 < i {
+    for i in (0..list.len() - 1).rev() {
         len += var_size(step_at(list, i));
-        i -= 1;
     }
     len
 }
@@ -85,10 +71,8 @@ fn put_blocks(list: &[u64], buf: &mut [u8], at: usize) -> usize
     ensures { Put (block_bytes (all_ranges list.now)) buf.old at result buf.new }
 {
     let mut next = at;
-    let mut i = list.len() - 1;
-    while 0 < i {
+    for i in (0..list.len() - 1).rev() {
         next = coding::write_var(buf, next, step_at(list, i));
-        i -= 1;
     }
     next
 }

@@ -1,4 +1,5 @@
-use Prim.Native.Nat.{◌-◌}
+use mathlib.Core.Path.{◌≡◌}
+use Prim.Native.Nat.{◌+◌, ◌-◌}
 use native.Mathlib.Omega.{arith}
 use lib.ListN.{length}
 use Rattle.ack_out.proofs.Lists.{kept, stepped}
@@ -14,7 +15,9 @@ bounds-list-n c = omega (arith, (kept _ c.requires).some)
 pub overflow_sub-result-2 : goal.overflow_sub-result-2
 overflow_sub-result-2 c =
     let k = kept _ c.requires in
-    omega (arith, (stepped c.args.list.now (length c.args.list.now - 1) k (omega (arith, k.even, k.some)) (omega (arith, k.some))).above)
+    let e : length c.args.list.now - 2 + 1 ≡ length c.args.list.now - 1 = omega (arith, k.even, k.some) in
+    let s = (stepped c.args.list.now (length c.args.list.now - 2) k (omega (arith, k.even, k.some))).above in
+    omega (arith, rw e at s)
 
 pub overflow_sub-result-3 : goal.overflow_sub-result-3
 overflow_sub-result-3 c =
