@@ -1,5 +1,5 @@
 -- Laws of the limits, and of integers one after the other.
-use Rattle.std.specs.Prelude.{if◌then◌else◌}
+use Rattle.std.specs.Prelude.{if◌then◌else◌, Result, Ok, Err}
 use mathlib.Core.Path.{◌≡◌, refl, sym, ap, ◌∙◌}
 use mathlib.Core.List.{List, [], ◌∷◌, ◌++◌, append_assoc, append-nil}
 use mathlib.Core.Bool.{Bool, true, false}
@@ -10,14 +10,12 @@ use lib.Seq.{take-suc}
 use lib.Dec.{ltb, leb}
 use borrow.Author.Tests.{ltb-true, leb-true, leb-false, lt-ltb, le-leb, lt-leb}
 use Rattle.coding.specs.Words.{Answer, no, ok}
-use Rattle.coding.specs.Varint.{var_size, var_bytes}
+use Rattle.coding.specs.Varint.{var_size, var_bytes, var_sized}
 use Rattle.coding.specs.Writing.{length_of}
 use Rattle.coding.specs.Refusals.{number_of}
-use Rattle.coding.specs.Said.{sized_of}
+use Rattle.coding.specs.Said.{answer_of}
 use Rattle.coding.specs.declared.refusal.Refusal.{Refusal}
-use Rattle.coding.specs.declared.varint.Sized.{Sized}
-use Rattle.coding.specs.declared.varint.Sized.TheVariants as sized
-use Rattle.coding.proofs.Laws.{length_var, size_le}
+use Rattle.coding.proofs.Laws.{length_var, size_le, in62_is}
 use Rattle.row_out.specs.Limits.{below62, in_frame, limited, vars_bytes, vars_out}
 
 -- ---- each integer is at most 2^62 - 1
@@ -160,13 +158,18 @@ vals_same xs ys bs d e h = rw e (go (leb (length (vars_bytes ys ++ d)) 65527) re
         let l = leb-false (length (vars_bytes ys ++ d)) 65527 i in
         limited_long xs (vars_bytes ys ++ d) l ∙ sym (limited_long ys (vars_bytes ys ++ d) l)
 
+-- an integer that has no size is refused as an argument
+pub sized_14 : (r : Result ℕ Refusal) (x : ℕ) (why : Refusal) → answer_of r ≡ var_sized x → r ≡ Err why → number_of why ≡ 14
+unfolding answer_of var_sized
+sized_14 r x why p q = in62_is x (number_of why) (var_size x) (sym (rw q at p))
+
 -- what a known size says
-module _ (r : Sized) (xs bs : List ℕ) (e : sized_of r ≡ length_of (vars_out xs bs)) where
+module _ (r : Result ℕ Refusal) (xs bs : List ℕ) (e : answer_of r ≡ length_of (vars_out xs bs)) where
   abbrev all : List ℕ
   all = vars_bytes xs ++ bs
 
-  pub size_held : (n : ℕ) → r ≡ sized.Bytes n → Held xs bs n
-  unfolding sized_of length_of vars_out limited in_frame
+  pub size_held : (n : ℕ) → r ≡ Ok n → Held xs bs n
+  unfolding answer_of length_of vars_out limited in_frame
   size_held n q = go (below62 xs) (leb (length all) 65527) refl refl (rw q at e)
     where
       go : (t u : Bool) → below62 xs ≡ t → leb (length all) 65527 ≡ u
@@ -179,12 +182,14 @@ module _ (r : Sized) (xs bs : List ℕ) (e : sized_of r ≡ length_of (vars_out 
       go false u a b h = let z : ◌≡◌ {A = ℕ} 0 1 = cc in absurd (omega arith)
 
   -- a refusal, and so with more bytes after the integers
-  pub size_not : (why : Refusal) (cs : List ℕ) → r ≡ sized.Refused why → length bs ≤ length cs → vars_out xs cs ≡ no 14
-  unfolding sized_of length_of vars_out limited in_frame
+  pub size_not : (why : Refusal) (cs : List ℕ) → r ≡ Err why → length bs ≤ length cs → vars_out xs cs ≡ no (number_of why)
+  unfolding answer_of length_of vars_out limited in_frame
   size_not why cs q l = go (below62 xs) (leb (length all) 65527) refl refl (rw q at e)
     where
       go : (t u : Bool) → below62 xs ≡ t → leb (length all) 65527 ≡ u
-          → no (number_of why) ≡ length_of (if t then (if u then ok all else no 14) else no 14) → vars_out xs cs ≡ no 14
+          → no (number_of why) ≡ length_of (if t then (if u then ok all else no 14) else no 14) → vars_out xs cs ≡ no (number_of why)
       go true true a b h = let z : ◌≡◌ {A = ℕ} 0 1 = cc in absurd (omega arith)
-      go true false a b h = out_long xs cs (omega (arith, leb-false (length all) 65527 b, length_out xs bs))
-      go false u a b h = out_past xs cs a
+      go true false a b h =
+          let k : number_of why ≡ 14 = cc in
+          rw k (out_long xs cs (omega (arith, leb-false (length all) 65527 b, length_out xs bs)))
+      go false u a b h = let k : number_of why ≡ 14 = cc in rw k (out_past xs cs a)

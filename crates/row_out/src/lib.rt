@@ -3,27 +3,24 @@
 #![tactic(auto)]
 
 ghost use Rattle.std.specs.Prelude.{◌≡◌, true, [], ◌+◌, ◌≤◌, length};
-ghost use Rattle.coding.specs.Said.{sized_of, wrote_of};
+ghost use Rattle.coding.specs.Said.{answer_of};
 ghost use Rattle.coding.specs.Writing.{length_of, Written, Put};
 ghost use Rattle.row_out.specs.Limits.{below62, vars_bytes, vars_out, stored};
 
-use coding::{MAX_DATAGRAM, Refusal, Sized, VarInt, Wrote};
+use coding::{MAX_DATAGRAM, Refusal, VarInt};
 
 // The bytes of integers, or 14: one is past 2^62 - 1, or they are more than a frame has.
-pub fn vars_len(vals: &[u64]) -> Sized
-    ensures { sized_of result ≡ length_of (vars_out vals.now []) }
+pub fn vars_len(vals: &[u64]) -> Result<usize, Refusal>
+    ensures { answer_of result ≡ length_of (vars_out vals.now []) }
 {
     let mut n = 0;
     for x in vals {
-        let Sized::Bytes(k) = VarInt(*x).size() else {
-            return Sized::Refused(Refusal::Argument);
-        };
-        n += k;
+        n += VarInt(*x).size()?;
         if MAX_DATAGRAM < n {
-            return Sized::Refused(Refusal::Argument);
+            return Err(Refusal::Argument);
         }
     }
-    Sized::Bytes(n)
+    Ok(n)
 }
 
 // Puts integers for which there is room.
@@ -42,7 +39,7 @@ fn put_each(buf: &mut [u8], at: usize, vals: &[u64]) -> usize
 pub fn put_vars(buf: &mut [u8], at: usize, vals: &[u64]) -> usize
     ensures { Put (stored (vars_out vals.now [])) buf.old at result buf.new }
 {
-    let Sized::Bytes(n) = vars_len(vals) else {
+    let Ok(n) = vars_len(vals) else {
         return at;
     };
     if buf.len() < at || buf.len() - at < n {
@@ -52,28 +49,24 @@ pub fn put_vars(buf: &mut [u8], at: usize, vals: &[u64]) -> usize
 }
 
 // How many integers and then bytes make a frame, or 14.
-pub fn frame_size(vals: &[u64], bytes: &[u8]) -> Sized
-    ensures { sized_of result ≡ length_of (vars_out vals.now bytes.now) }
+pub fn frame_size(vals: &[u64], bytes: &[u8]) -> Result<usize, Refusal>
+    ensures { answer_of result ≡ length_of (vars_out vals.now bytes.now) }
 {
-    let Sized::Bytes(n) = vars_len(vals) else {
-        return Sized::Refused(Refusal::Argument);
-    };
+    let n = vars_len(vals)?;
     if MAX_DATAGRAM - n < bytes.len() {
-        return Sized::Refused(Refusal::Argument);
+        return Err(Refusal::Argument);
     }
-    Sized::Bytes(n + bytes.len())
+    Ok(n + bytes.len())
 }
 
 // Writes integers and then bytes, from byte 0 of buf on.
-pub fn frame_of(vals: &[u64], bytes: &[u8], buf: &mut [u8]) -> Wrote
-    ensures { Written (vars_out vals.now bytes.now) buf.old (wrote_of result) buf.new }
+pub fn frame_of(vals: &[u64], bytes: &[u8], buf: &mut [u8]) -> Result<usize, Refusal>
+    ensures { Written (vars_out vals.now bytes.now) buf.old (answer_of result) buf.new }
 {
-    let Sized::Bytes(n) = frame_size(vals, bytes) else {
-        return Wrote::Refused(Refusal::Argument);
-    };
+    let n = frame_size(vals, bytes)?;
     if buf.len() < n {
-        return Wrote::Refused(Refusal::Room);
+        return Err(Refusal::Room);
     }
     let at = put_each(buf, 0, vals);
-    Wrote::Len(coding::put_slice(buf, at, bytes))
+    Ok(coding::put_slice(buf, at, bytes))
 }

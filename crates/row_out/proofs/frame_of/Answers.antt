@@ -1,30 +1,32 @@
-use native.Mathlib.Omega.{arith}
-use Rattle.coding.specs.Said.{wrote_of}
+use Rattle.std.proofs.Common.{arith}
+use Rattle.std.proofs.lemmas.Result.{err_from_is_err_and}
+use Rattle.coding.specs.Said.{answer_of}
 use Rattle.coding.proofs.Writes.{written_no, written_short, written_ok, put_so, so_put}
 use Rattle.row_out.proofs.Laws.{length_out, out_ok, size_held, size_not}
 use Rattle.row_out.proofs.frame_of.Goals as goal
 
-pub returns-in_default : goal.returns-in_default
-unfolding wrote_of
-returns-in_default c =
-    written_no _ (size_not _ _ _ c.frame_size.ensures _ _ c.in_default.is (omega arith))
+pub returns-in_err-n : goal.returns-in_err-n
+unfolding answer_of
+returns-in_err-n c =
+    let p = err_from_is_err_and c.from_residual.result c.from_residual.ensures.1 in
+    rw (p.1, p.2) (written_no _ (size_not _ _ _ c.frame_size.ensures _ _ c.in_err-n.was (omega arith)))
 
 pub returns-then-buf-n : goal.returns-then-buf-n
-unfolding wrote_of
+unfolding answer_of
 returns-then-buf-n c =
     let a = c.args in
-    let h = size_held _ _ _ c.frame_size.ensures _ c.in-Bytes.is in
+    let h = size_held _ _ _ c.frame_size.ensures _ c.in_ok-n.was in
     written_short _ (out_ok _ _ _ h) (omega (arith, length_out a.vals.now a.bytes.now))
 
 pub put_each-at-requires : goal.put_each-at-requires
 put_each-at-requires c =
-    let h = size_held _ _ _ c.frame_size.ensures _ c.in-Bytes.is in
+    let h = size_held _ _ _ c.frame_size.ensures _ c.in_ok-n.was in
     (h.small, omega arith)
 
 pub returns : goal.returns
-unfolding wrote_of
+unfolding answer_of
 returns c =
     let a = c.args in
-    let h = size_held _ _ _ c.frame_size.ensures _ c.in-Bytes.is in
+    let h = size_held _ _ _ c.frame_size.ensures _ c.in_ok-n.was in
     let p = put_so _ _ _ (omega arith) c.put_each-at.ensures in
     written_ok _ (out_ok _ _ _ h) (omega (arith, length_out a.vals.now a.bytes.now)) (so_put p (omega arith) c.put_slice.ensures)

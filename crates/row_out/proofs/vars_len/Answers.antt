@@ -1,35 +1,37 @@
 use Rattle.std.proofs.Common.{◌≡◌, ap, refl, suc, [], append-nil, add-one, arith, take}
+use Rattle.std.proofs.lemmas.Result.{err_from_is_err_and}
 use lib.Seq.{take_all}
-use Rattle.coding.specs.Words.{ok}
-use Rattle.coding.specs.Said.{sized_of}
+use Rattle.coding.specs.Words.{no, ok}
+use Rattle.coding.specs.Said.{answer_of}
 use Rattle.coding.specs.Writing.{length_of}
 use Rattle.coding.proofs.Laws.{sized_bytes, sized_not, size_le}
 use Rattle.row_out.specs.Limits.{below62, vars_bytes}
-use Rattle.row_out.proofs.Laws.{below_more, below_not, length_more, vars_part, Held, out_ok, out_past, out_long}
+use Rattle.row_out.proofs.Laws.{sized_14, below_more, below_not, length_more, vars_part, Held, out_ok, out_past, out_long}
 use Rattle.row_out.proofs.vars_len.Goals as goal
 
 pub loop-x-init : goal.loop-x-init
 unfolding below62 vars_bytes
 loop-x-init c = (omega arith, refl, refl)
 
-pub returns-in_default : goal.returns-in_default
-unfolding sized_of length_of
-returns-in_default c =
+pub returns-in_err-n : goal.returns-in_err-n
+unfolding answer_of length_of
+returns-in_err-n c =
     let v = c.args.vals.now in
-    let h = sized_not _ _ _ c.size.ensures c.in_default.is in
-    rw (out_past v [] (below_not v c.loop-x.x-index (omega arith) h))
+    let p = err_from_is_err_and c.from_residual.result c.from_residual.ensures.1 in
+    let h = sized_not _ _ _ c.size.ensures c.in_err-n.was in
+    rw (p.1, p.2, out_past v [] (below_not v c.loop-x.x-index (omega arith) h)) (ap no (sized_14 _ _ _ c.size.ensures c.in_err-n.was))
 
 pub overflow_add-n : goal.overflow_add-n
 overflow_add-n c =
-    let h = sized_bytes _ _ _ c.size.ensures c.in-Bytes.is in
+    let h = sized_bytes _ _ _ c.size.ensures c.in_ok-n.was in
     omega (arith, h.1, size_le _ h.0)
 
 pub returns-then-n-gt-MAX_DATAGRAM : goal.returns-then-n-gt-MAX_DATAGRAM
-unfolding sized_of length_of
+unfolding answer_of length_of
 returns-then-n-gt-MAX_DATAGRAM c =
     let v = c.args.vals.now in
     let i = c.loop-x.x-index in
-    let h = sized_bytes _ _ _ c.size.ensures c.in-Bytes.is in
+    let h = sized_bytes _ _ _ c.size.ensures c.in_ok-n.was in
     let m = length_more v i (omega arith) in
     rw (out_long v [] (omega (arith, h.1, vars_part v (suc i))))
 
@@ -37,12 +39,12 @@ pub loop-x-preserved : goal.loop-x-preserved
 loop-x-preserved c =
     let v = c.args.vals.now in
     let i = c.loop-x.x-index in
-    let h = sized_bytes _ _ _ c.size.ensures c.in-Bytes.is in
+    let h = sized_bytes _ _ _ c.size.ensures c.in_ok-n.was in
     let m = length_more v i (omega arith) in
     (omega arith, rw add-one (below_more v i (omega arith) c.loop-x.invariant.1 h.0), rw add-one (omega (arith, h.1, c.loop-x.invariant.2)))
 
 pub returns : goal.returns
-unfolding sized_of length_of
+unfolding answer_of length_of
 returns c =
     let l = c.loop-x in
     let v = c.args.vals.now in
