@@ -1,6 +1,7 @@
 -- Laws of the scan.
-use Rattle.std.specs.Prelude.{if◌then◌else◌}
-use mathlib.Core.Path.{◌≡◌, refl, sym}
+use Rattle.std.specs.Prelude.{if◌then◌else◌, Option, Some, None, Result, Ok, Err}
+use Rattle.std.specs.Option.{SomeIff, ok_or}
+use mathlib.Core.Path.{◌≡◌, refl, sym, ap, ◌∙◌}
 use mathlib.Core.List.{List}
 use mathlib.Core.Bool.{Bool, true, false}
 use Prim.Native.Nat.{ℕ, zero, suc, ◌+◌, ◌-◌, ◌≤◌, ◌<◌, ◌^◌}
@@ -12,21 +13,32 @@ use Rattle.coding.specs.Words.{Got, cut, got, and_then, Answer, no, ok}
 use Rattle.coding.specs.Varint.{var_at}
 use Rattle.coding.specs.Said.{var_of}
 use Rattle.coding.specs.declared.varint.VarInt.{VarInt}
-use Rattle.coding.specs.declared.VarRead.{VarRead}
-use Rattle.coding.specs.declared.VarRead.TheVariants as var
+use Rattle.coding.specs.declared.refusal.UnexpectedEnd.{UnexpectedEnd}
 use Rattle.coding.proofs.Laws.{Octets, var_below, var_inside}
 use Rattle.coding.proofs.Rules.{if_all, then_all}
-use Rattle.coding.specs.Refusals.{number_of}
 use Rattle.coding.specs.declared.refusal.Refusal.{Refusal}
 use Rattle.ack.specs.Scan.{rounds, scan_at, scanned}
-use Rattle.ack.specs.Said.{round_then}
-use Rattle.ack.specs.declared.Round.{Round}
-use Rattle.ack.specs.declared.Round.TheVariants as round
 
 -- an integer that was read is below 2^62
-pub var_small : (s : List ℕ) (at : ℕ) (r : VarRead) (v : VarInt) (n : ℕ) → Octets s → var_of r ≡ var_at s at → r ≡ var.Var v n → v.0 < 2 ^ 62
+pub var_small : (s : List ℕ) (at : ℕ) (r : Result (VarInt × ℕ) UnexpectedEnd) (v : VarInt) (n : ℕ) → Octets s → var_of r ≡ var_at s at → r ≡ Ok (v, n) → v.0 < 2 ^ 62
 unfolding var_of
 var_small s at r v n o p q = var_below s at v.0 n o (sym (rw q at p))
+
+-- a difference that was taken, or that would be below zero
+module _ (r : Option ℕ) (a b : ℕ) (why : Refusal) (q : Result ℕ Refusal) (e : SomeIff r (b ≤ a) (a - b)) (f : q ≡ ok_or r why) where
+  pub took : (v : ℕ) → q ≡ Ok v → (b ≤ a) × (v ≡ a - b)
+  took v h = go r e (sym f ∙ h)
+    where
+      go : (r : Option ℕ) → SomeIff r (b ≤ a) (a - b) → ok_or r why ≡ Ok v → (b ≤ a) × (v ≡ a - b)
+      go None e h = cc
+      go (Some x) e h = let i : x ≡ v = cc in (e.0, sym i ∙ e.1)
+
+  pub below : (w : Refusal) → q ≡ Err w → (a < b) × (w ≡ why)
+  below w h = go r e (sym f ∙ h)
+    where
+      go : (r : Option ℕ) → SomeIff r (b ≤ a) (a - b) → ok_or r why ≡ Err w → (a < b) × (w ≡ why)
+      go None e h = (let n : b ≤ a → ⊥ = e in omega arith, cc)
+      go (Some x) e h = cc
 
 pub none : (s : List ℕ) (n at smallest : ℕ) → n ≤ 0 → rounds s n at smallest ≡ ok at
 unfolding rounds
@@ -53,31 +65,9 @@ if_ok a b k x e = go (ltb a b) refl
     go true q h = let z : ◌≡◌ {A = ℕ} 0 1 = cc in absurd (omega arith)
     go false q h = (ltb-false _ _ q, h)
 
--- ---- a round that was read, and those after it
-
-module _ (s : List ℕ) (at smallest : ℕ) (r : Round) (e : (n : ℕ) → round_then r (rounds s n) ≡ rounds s (suc n) at smallest) where
-  pub round_on : (low next n : ℕ) → r ≡ round.To low next → 0 < n → rounds s (n - 1) next low ≡ rounds s n at smallest
-  unfolding round_then
-  round_on low next zero q h = absurd (omega arith)
-  round_on low next (suc n) q h = let i : suc n - 1 ≡ n = omega arith in rw i (rw q at (e n))
-
-  pub round_no : (why : Refusal) (n : ℕ) → r ≡ round.Refused why → 0 < n → no (number_of why) ≡ rounds s n at smallest
-  unfolding round_then
-  round_no why zero q h = absurd (omega arith)
-  round_no why (suc n) q h = rw q at (e n)
-
-  -- it ends past its start and inside
-  pub round_past : (low next : ℕ) → r ≡ round.To low next → (at < next) × (next ≤ length s)
-  unfolding round_then rounds
-  round_past low next q =
-      let a = then_ok (var_at s at) 10 _ next (sym (rw q at (e 0))) in
-      let b = if_ok smallest (a.value + 2) 12 _ next a.more in
-      let c = then_ok (var_at s a.next) 10 _ next b.1 in
-      let d = if_ok (smallest - (a.value + 2)) c.value 12 _ next c.more in
-      let l : c.next ≡ next = cc in
-      let i = var_inside s at a.value a.next a.read in
-      let j = var_inside s a.next c.value c.next c.read in
-      (omega arith, omega arith)
+-- a round more than what is left of n behind the next one is what is left of n
+pub rounds_left : (s : List ℕ) (n i at smallest : ℕ) → i < n → rounds s (suc (n - (i + 1))) at smallest ≡ rounds s (n - i) at smallest
+rounds_left s n i at smallest h = let l : suc (n - (i + 1)) ≡ n - i = omega arith in ap (λ (k : ℕ). rounds s k at smallest) l
 
 -- within the arguments' rule nothing is refused 14
 pub in_rule : (s : List ℕ) (at largest n : ℕ) → length s ≤ 65527 → largest < 2 ^ 62 → n < 2 ^ 62 → scanned s at largest n ≡ scan_at s at largest n

@@ -2,8 +2,10 @@
 use Prim.Native.Nat.{ℕ}
 use mathlib.Core.Path.{◌∙◌, sym, refl}
 use mathlib.Core.List.{List}
+use Rattle.std.specs.Prelude.{Option, Result}
 use Rattle.coding.specs.Once.{Once, OnceOf}
-use Rattle.ack.specs.declared.AckStep.{AckStep}
+use Rattle.coding.specs.declared.refusal.Refusal.{Refusal}
+use Rattle.shared.specs.declared.kinds.FullNumber.{FullNumber}
 use Rattle.ack.proofs.Inverse.{step_one}
 use Rattle.ack_iter.specs.declared.AckIter.{AckIter}
 use Rattle.ack_iter.specs.contracts.AckIter.new as new
@@ -22,7 +24,11 @@ new_once κs a x y s t p q i = record { largest = (p.0 ∙ sym q.0) i; «data» 
 abbrev pub seen : AckIter → ℕ × (ℕ × ℕ) × List ℕ
 seen it = (it.largest.0, it.«data».ref_ptr, it.«data».now)
 
-next_once : Once {B = AckStep × (ℕ × (ℕ × ℕ) × List ℕ)} next.ended next_reads.Post (λ κs x s. (x, seen s.0.now))
+-- and the answer
+abbrev pub Seen : Type 0
+Seen = Result (Option (FullNumber × FullNumber)) Refusal
+
+next_once : Once {B = Seen × (ℕ × (ℕ × ℕ) × List ℕ)} next.ended next_reads.Post (λ κs x s. (x, seen s.0.now))
 unfolding Once
 next_once κs a x y s t p q i = (
   step_one x y _ p.0 q.0 i,
@@ -37,5 +43,5 @@ nth_range_once κs a x y s t p q = step_one x y _ p q
 new_once_of : OnceOf new.ended (λ M 𝓤. new.clauses) (λ κs x s. x)
 new_once_of = record { claim = new_reads.Post; is = λ M 𝓤 𝓛 mem run κs a g x s. refl; once = new_once }
 
-next_once_of : OnceOf {B = AckStep × (ℕ × (ℕ × ℕ) × List ℕ)} next.ended (λ M 𝓤. next.clauses) (λ κs x s. (x, seen s.0.now))
+next_once_of : OnceOf {B = Seen × (ℕ × (ℕ × ℕ) × List ℕ)} next.ended (λ M 𝓤. next.clauses) (λ κs x s. (x, seen s.0.now))
 next_once_of = record { claim = next_reads.Post; is = λ M 𝓤 𝓛 mem run κs a g x s. refl; once = next_once }

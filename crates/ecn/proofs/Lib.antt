@@ -1,4 +1,3 @@
--- `Count` has what the proof of `add_assign` knows of `more` and where the counts start, `Inverse` that what an answer says settles it, `Onces` that each public function has only one answer.
+-- `Count` has where the counts start, `Onces` that each public function has only one answer.
 pub mod Count
-pub mod Inverse
 pub mod Onces

@@ -3,48 +3,30 @@
 #![tactic(auto)]
 
 ghost use Rattle.std.specs.Prelude.{◌≡◌};
+ghost use Rattle.coding.specs.Said.{answer_of};
 ghost use Rattle.shared.specs.Said.{ecn_of};
-ghost use Rattle.ecn.specs.Counts.{zero_counts, counts_after, said_after};
-ghost use Rattle.ecn.specs.Said.{more_of, raise_of};
+ghost use Rattle.ecn.specs.Counts.{zero_counts, count_of, count_said, counts_after, said_after};
+ghost use Rattle.ecn.specs.Said.{raised_to};
 
 use coding::{MAX_NUMBER, Refusal};
 use shared::EcnCodepoint;
 
-#[derive(Clone, Copy)]
+#[derive(Clone, Copy, PartialEq, Eq)]
 pub struct EcnCounts {
     pub ect0: u64,
     pub ect1: u64,
     pub ce: u64,
 }
 
-// Whether a count was raised.
-#[derive(Clone, Copy)]
-pub enum Raise {
-    Done,
-    Refused(Refusal),
-}
-
-// A count, and whether it was raised.
-#[derive(Clone, Copy)]
-struct Counted {
-    count: u64,
-    answer: Raise,
-}
-
-// A count raised by one, or as it was with the refusal.
-fn more(n: u64) -> Counted
-    ensures { result ≡ more_of n }
+// A count is raised by one where it stands, or stays as it was with the refusal.
+fn more(count: &mut u64) -> Result<(), Refusal>
+    ensures { (count.new ≡ count_of count.old) × (answer_of result ≡ count_said count.old) }
 {
-    if n < MAX_NUMBER {
-        Counted {
-            count: n + 1,
-            answer: Raise::Done,
-        }
+    if *count < MAX_NUMBER {
+        *count += 1;
+        Ok(())
     } else {
-        Counted {
-            count: n,
-            answer: Raise::Refused(Refusal::Argument),
-        }
+        Err(Refusal::Argument)
     }
 }
 
@@ -63,41 +45,22 @@ impl EcnCounts {
     }
 
     // One count is raised where it stands, and the other two stay; a refusal changes nothing.
-    pub fn add_assign(&mut self, rhs: EcnCodepoint) -> Raise
-        ensures { (self.new ≡ counts_after self.old (ecn_of rhs)) × (raise_of result ≡ said_after self.old (ecn_of rhs)) }
+    pub fn add_assign(&mut self, rhs: EcnCodepoint) -> Result<(), Refusal>
+        ensures { (self.new ≡ counts_after self.old (ecn_of rhs)) × (answer_of result ≡ said_after self.old (ecn_of rhs)) }
     {
         match rhs {
-            EcnCodepoint::Ect0 => {
-                let r = more(self.ect0);
-                self.ect0 = r.count;
-                r.answer
-            }
-            EcnCodepoint::Ect1 => {
-                let r = more(self.ect1);
-                self.ect1 = r.count;
-                r.answer
-            }
-            EcnCodepoint::Ce => {
-                let r = more(self.ce);
-                self.ce = r.count;
-                r.answer
-            }
+            EcnCodepoint::Ect0 => more(&mut self.ect0),
+            EcnCodepoint::Ect1 => more(&mut self.ect1),
+            EcnCodepoint::Ce => more(&mut self.ce),
         }
     }
 }
 
-// The counts afterwards, and whether one was raised.
-#[derive(Clone, Copy)]
-pub struct After {
-    pub counts: EcnCounts,
-    pub answer: Raise,
-}
-
-// The count of a codepoint raised where it stands.
-pub fn raised(counts: EcnCounts, rhs: EcnCodepoint) -> After
-    ensures { (result.counts ≡ counts_after counts (ecn_of rhs)) × (raise_of result.answer ≡ said_after counts (ecn_of rhs)) }
+// The counts with the count of a codepoint raised where it stands.
+pub fn raised(counts: EcnCounts, rhs: EcnCodepoint) -> Result<EcnCounts, Refusal>
+    ensures { answer_of result ≡ raised_to (said_after counts (ecn_of rhs)) (counts_after counts (ecn_of rhs)) }
 {
     let mut c = counts;
-    let answer = c.add_assign(rhs);
-    After { counts: c, answer }
+    c.add_assign(rhs)?;
+    Ok(c)
 }

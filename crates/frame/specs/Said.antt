@@ -1,43 +1,35 @@
 -- What each case of the code's answers says, in document 01's numbers and values.
-use Rattle.std.specs.Prelude.{ℕ, List, [], ◌∷◌}
-use Rattle.std.proofs.Math.Option.{Option, some}
-use Rattle.std.proofs.Math.Option as option
+use Rattle.std.specs.Prelude.{ℕ, List, [], ◌∷◌, Option, Some, None, Result, Ok, Err}
+use Rattle.std.proofs.Math.Option as math
 use Rattle.coding.specs.Refusals.{number_of}
 use Rattle.coding.specs.declared.Place.{Place}
+use Rattle.coding.specs.declared.refusal.Refusal.{Refusal}
 use Rattle.shared.specs.Said.{dir_bit}
-use Rattle.frame.specs.declared.kinds.TypeRead.{TypeRead}
-use Rattle.frame.specs.declared.kinds.TypeRead.TheVariants as ty
-use Rattle.frame.specs.declared.kinds.AckEcn.{AckEcn}
-use Rattle.frame.specs.declared.kinds.AckEcn.TheVariants as ecn
+use Rattle.shared.specs.declared.kinds.FrameType.{FrameType}
+use Rattle.ecn.specs.declared.EcnCounts.{EcnCounts}
 use Rattle.frame.specs.declared.kinds.Close.{Close}
 use Rattle.frame.specs.declared.kinds.Close.TheVariants as close
 use Rattle.frame.specs.declared.kinds.Frame.{Frame}
 use Rattle.frame.specs.declared.kinds.Frame.TheVariants as frame
-use Rattle.frame.specs.declared.field.Field.{Field}
-use Rattle.frame.specs.declared.field.Field.TheVariants as field
-use Rattle.frame.specs.declared.body.Body.{Body}
-use Rattle.frame.specs.declared.body.Body.TheVariants as body
 use Rattle.frame.specs.declared.FrameRead.{FrameRead}
-use Rattle.frame.specs.declared.FrameRead.TheVariants as read
-use Rattle.frame.specs.declared.FrameStep.{FrameStep}
-use Rattle.frame.specs.declared.FrameStep.TheVariants as step
+use Rattle.frame.specs.declared.InvalidFrame.{InvalidFrame}
 use Rattle.frame.specs.declared.SizedStep.{SizedStep}
 use Rattle.frame.specs.Format.{Value, num, place, none, Said, said, Read, done, refuse}
 use Rattle.frame.specs.Table.{flag, FrameOutcome, taken, refused}
 use Rattle.frame.specs.Walk.{WalkStep, end}
 use Rattle.frame.specs.Walk as walk
 
-abbrev pub type_value : TypeRead → Value
-type_value ty.Nothing = none
-type_value (ty.Type t) = num t.0
+abbrev pub type_value : Option FrameType → Value
+type_value None = none
+type_value (Some t) = num t.0
 
-abbrev pub type_seen : TypeRead → Option ℕ
-type_seen ty.Nothing = option.none
-type_seen (ty.Type t) = some t.0
+abbrev pub type_seen : Option FrameType → math.Option ℕ
+type_seen None = math.none
+type_seen (Some t) = math.some t.0
 
-abbrev pub ecn_values : AckEcn → List Value
-ecn_values ecn.Nothing = none ∷ []
-ecn_values (ecn.Counts x) = num x.ect0 ∷ num x.ect1 ∷ num x.ce ∷ []
+abbrev pub ecn_values : Option EcnCounts → List Value
+ecn_values None = none ∷ []
+ecn_values (Some x) = num x.ect0 ∷ num x.ect1 ∷ num x.ce ∷ []
 
 abbrev pub close_said : Close → Said
 close_said (close.Connection x) = said 0x1c (num x.error_code ∷ type_value x.frame_type ∷ place x.reason ∷ [])
@@ -69,21 +61,21 @@ frame_said (frame.AckFrequency x) =
 frame_said frame.ImmediateAck = said 0x1f []
 frame_said frame.HandshakeDone = said 0x1e []
 
-unfoldable pub field_of : Field → Read Place
-field_of (field.At p n) = done p n
-field_of (field.Refused why) = refuse (number_of why)
+unfoldable pub field_of : Result (Place × ℕ) Refusal → Read Place
+field_of (Ok (p, n)) = done p n
+field_of (Err why) = refuse (number_of why)
 
-unfoldable pub body_of : Body → Read Said
-body_of (body.Done f n) = done (frame_said f) n
-body_of (body.Refused why) = refuse (number_of why)
+unfoldable pub body_of : Result (Frame × ℕ) Refusal → Read Said
+body_of (Ok (f, n)) = done (frame_said f) n
+body_of (Err why) = refuse (number_of why)
 
-unfoldable pub said_of : FrameRead → FrameOutcome
-said_of (read.Got f t n) = taken t.0 (frame_said f) n
-said_of (read.Refused why start t) = refused (number_of why) start (type_seen t)
+unfoldable pub said_of : Result FrameRead InvalidFrame → FrameOutcome
+said_of (Ok r) = taken r.ty.0 (frame_said r.frame) r.next
+said_of (Err e) = refused (number_of e.why) e.start (type_seen e.ty)
 
-unfoldable pub step_of : FrameStep → WalkStep
-step_of (step.Read r) = walk.frame (said_of r)
-step_of step.End = end
+unfoldable pub step_of : Option (Result FrameRead InvalidFrame) → WalkStep
+step_of (Some r) = walk.frame (said_of r)
+step_of None = end
 
 unfoldable pub sized_step_of : SizedStep → WalkStep × ℕ
 sized_step_of r = (step_of r.step, r.size)

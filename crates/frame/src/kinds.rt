@@ -8,26 +8,12 @@ use coding::Place;
 use ecn::EcnCounts;
 use shared::{Dir, FrameType, FullNumber, StreamId, types};
 
-// A frame's type, where there is one.
-#[derive(Clone, Copy)]
-pub enum TypeRead {
-    Type(FrameType),
-    Nothing,
-}
-
-// The ECN counts of an ACK, where it has them.
-#[derive(Clone, Copy)]
-pub enum AckEcn {
-    Counts(EcnCounts),
-    Nothing,
-}
-
 #[derive(Clone, Copy)]
 pub struct Ack {
     pub largest: FullNumber,
     pub delay: u64,
     pub additional: Place,
-    pub ecn: AckEcn,
+    pub ecn: Option<EcnCounts>,
 }
 
 #[derive(Clone, Copy)]
@@ -76,7 +62,7 @@ pub struct NewConnectionId {
 #[derive(Clone, Copy)]
 pub struct ConnectionClose {
     pub error_code: u64,
-    pub frame_type: TypeRead,
+    pub frame_type: Option<FrameType>,
     pub reason: Place,
 }
 

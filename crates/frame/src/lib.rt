@@ -6,102 +6,88 @@ mod body; // body.rt: each kind's fields, and the decision over the type's numbe
 mod field; // field.rt: the fields that are more than an integer
 mod kinds; // kinds.rt: what a frame is
 
-ghost use Rattle.std.specs.Prelude.{◌≡◌, ◌-◌, ◌≤◌, length};
+ghost use Rattle.std.specs.Prelude.{◌≡◌, ◌≤◌, length};
 ghost use Rattle.coding.specs.Words.{max_datagram};
 ghost use Rattle.frame.specs.Table.{table, frame_at};
 ghost use Rattle.frame.specs.Walk.{step_at, sized};
 ghost use Rattle.frame.specs.Said.{said_of, step_of, sized_step_of};
 
-use body::Body;
-use coding::{MAX_DATAGRAM, Refusal, VarRead};
+use coding::{MAX_DATAGRAM, Refusal};
 pub use kinds::{
-    Ack, AckEcn, AckFrequency, ApplicationClose, Close, ConnectionClose, Crypto, Datagram, Frame,
-    NewConnectionId, NewToken, ResetStream, StopSending, Stream, TypeRead,
+    Ack, AckFrequency, ApplicationClose, Close, ConnectionClose, Crypto, Datagram, Frame,
+    NewConnectionId, NewToken, ResetStream, StopSending, Stream,
 };
 use shared::FrameType;
 
-// A frame, its type as it was read, and the place past it; or a refusal, with the frame's start and its type once read.
+// A frame, its type as it was read, and the place past it.
 #[derive(Clone, Copy)]
-pub enum FrameRead {
-    Got {
-        frame: Frame,
-        ty: FrameType,
-        next: usize,
-    },
-    Refused {
-        why: Refusal,
-        start: usize,
-        ty: TypeRead,
-    },
+pub struct FrameRead {
+    pub frame: Frame,
+    pub ty: FrameType,
+    pub next: usize,
 }
 
-// A frame as it was read, or that the payload has ended.
+// Why a frame is refused, with its start, and its type once read.
 #[derive(Clone, Copy)]
-pub enum FrameStep {
-    Read(FrameRead),
-    End,
+pub struct InvalidFrame {
+    pub why: Refusal,
+    pub start: usize,
+    pub ty: Option<FrameType>,
 }
 
 // A step, and how many bytes it took: the frame's encoded size with its type.
 #[derive(Clone, Copy)]
 pub struct SizedStep {
-    pub step: FrameStep,
+    pub step: Option<Result<FrameRead, InvalidFrame>>,
     pub size: usize,
 }
 
 // The frame at a place of a payload whose own rule `step` has tested.
-pub(crate) fn read_frame(s: &[u8], start: usize) -> FrameRead
+pub(crate) fn read_frame(s: &[u8], start: usize) -> Result<FrameRead, InvalidFrame>
     requires { length s.now ≤ max_datagram }
     ensures { said_of result ≡ frame_at table s.now start }
 {
-    let VarRead::Var(number, at) = coding::get_var(s, start) else {
-        return FrameRead::Refused {
+    let Ok((number, at)) = coding::get_var(s, start) else {
+        return Err(InvalidFrame {
             why: Refusal::UnexpectedEnd,
             start,
-            ty: TypeRead::Nothing,
-        };
+            ty: None,
+        });
     };
     let ty = FrameType(number.0);
     match body::read_body(s, at, ty) {
-        Body::Done(frame, next) => FrameRead::Got { frame, ty, next },
-        Body::Refused(why) => FrameRead::Refused {
+        Ok((frame, next)) => Ok(FrameRead { frame, ty, next }),
+        Err(why) => Err(InvalidFrame {
             why,
             start,
-            ty: TypeRead::Type(ty),
-        },
+            ty: Some(ty),
+        }),
     }
 }
 
 // One step of the walk over a payload, which the caller repeats from place 0 on: a frame read says where the next one starts,
-// and after a refusal nothing more is handed out.
-pub fn step(payload: &[u8], at: usize) -> FrameStep
+// after a refusal nothing more is handed out, and the payload's end is none.
+pub fn step(payload: &[u8], at: usize) -> Option<Result<FrameRead, InvalidFrame>>
     ensures { step_of result ≡ step_at table payload.now at }
 {
     if MAX_DATAGRAM < payload.len() {
-        return FrameStep::Read(FrameRead::Refused {
+        return Some(Err(InvalidFrame {
             why: Refusal::Argument,
             start: at,
-            ty: TypeRead::Nothing,
-        });
+            ty: None,
+        }));
     }
-    if payload.len() == 0 {
-        return FrameStep::Read(FrameRead::Refused {
+    if payload.is_empty() {
+        return Some(Err(InvalidFrame {
             why: Refusal::NoFrames,
             start: at,
-            ty: TypeRead::Nothing,
-        });
+            ty: None,
+        }));
     }
     if payload.len() <= at {
-        return FrameStep::End;
+        return None;
     }
-    FrameStep::Read(read_frame(payload, at))
-}
-
-// a - b, or 0 where that is below zero.
-fn less(a: usize, b: usize) -> usize
-    ensures { result ≡ a - b }
-{
-    if a < b { 0 } else { a - b }
+    Some(read_frame(payload, at))
 }
 
 // A step and its size; a refused frame takes all that is left.
@@ -109,26 +95,11 @@ pub fn next_with_size(payload: &[u8], at: usize) -> SizedStep
     ensures { sized_step_of result ≡ sized table payload.now at }
 {
     let step = step(payload, at);
-    let len = payload.len();
-    match step {
-        FrameStep::End => SizedStep { step, size: 0 },
-        FrameStep::Read(read) => match read {
-            FrameRead::Got {
-                frame: _,
-                ty: _,
-                next,
-            } => SizedStep {
-                step,
-                size: less(next, at),
-            },
-            FrameRead::Refused {
-                why: _,
-                start: _,
-                ty: _,
-            } => SizedStep {
-                step,
-                size: less(len, at),
-            },
-        },
-    }
+    let end = match step {
+        None => at,
+        Some(Ok(read)) => read.next,
+        Some(Err(_)) => payload.len(),
+    };
+    let size = end.saturating_sub(at);
+    SizedStep { step, size }
 }

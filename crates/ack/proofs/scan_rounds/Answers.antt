@@ -1,24 +1,24 @@
-use mathlib.Core.Path.{refl, ◌∙◌}
+use Prim.Native.Nat.{◌-◌, ◌+◌}
+use mathlib.Core.Path.{sym, ◌∙◌}
 use native.Mathlib.Omega.{arith}
-use Rattle.ack.specs.Said.{scanned_of}
-use Rattle.ack.proofs.Laws.{none, round_on, round_no, round_past}
+use Rattle.coding.specs.Said.{answer_of}
+use Rattle.ack.specs.Said.{round_then}
+use Rattle.ack.proofs.Laws.{none, rounds_left}
+use Rattle.ack.proofs.Tries.{out}
 use Rattle.ack.proofs.scan_rounds.Goals as goal
 
-pub loop-left-init : goal.loop-left-init
-loop-left-init c = refl
+pub returns-in_err-smallest : goal.returns-in_err-smallest
+unfolding answer_of round_then
+returns-in_err-smallest c =
+    let left = c.args.n - (c.loop.counter + 1) in
+    rw (out _ _ c.from_residual.ensures) (c.in_err-smallest.ensures left ∙ rounds_left _ _ _ _ _ c.loop-test.true ∙ c.loop.invariant)
 
-pub returns-in-Refused : goal.returns-in-Refused
-unfolding scanned_of
-returns-in-Refused c =
-    round_no _ _ _ _ c.scan_round-turn.ensures _ _ c.in-Refused.is c.loop-left-test.true ∙ c.loop-left.invariant
-
-pub loop-left-smaller : goal.loop-left-smaller
-loop-left-smaller c = omega (arith, round_past _ _ _ _ c.scan_round-turn.ensures _ _ c.in-To.is)
-
-pub loop-left-preserved : goal.loop-left-preserved
-loop-left-preserved c =
-    round_on _ _ _ _ c.scan_round-turn.ensures _ _ _ c.in-To.is c.loop-left-test.true ∙ c.loop-left.invariant
+pub loop-preserved : goal.loop-preserved
+unfolding round_then
+loop-preserved c =
+    let left = c.args.n - (c.loop.counter + 1) in
+    c.in_ok-smallest.ensures left ∙ rounds_left _ _ _ _ _ c.loop-test.true ∙ c.loop.invariant
 
 pub returns : goal.returns
-unfolding scanned_of
-returns c = rw (← c.loop-left.invariant, none _ _ _ _ c.loop-left-test.false)
+unfolding answer_of
+returns c = sym (none _ _ _ _ (omega arith)) ∙ c.loop.invariant

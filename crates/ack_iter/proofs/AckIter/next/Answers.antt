@@ -8,7 +8,7 @@ pub returns : goal.returns
 unfolding taken_of
 returns c =
     let it = c.args.self.now in
-    let e : taken_of c.step-t.result ≡ taken it = c.step-t.ensures in (
+    let e : taken_of c.ack_step-answer.result ≡ taken it = c.ack_step-answer.ensures in (
       ap (λ (t : Taken). t.step) e,
       ap (λ (t : Taken). t.largest) e,
       subst (λ (n : ℕ). Rest it.«data» c.rest_of-self.result n) (ap (λ (t : Taken). t.next) e) c.rest_of-self.ensures,
