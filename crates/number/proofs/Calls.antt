@@ -48,10 +48,6 @@ module _ (e : Ends) where
   unfolding receive_end
   receive_yes p = le-leb _ _ p
 
-  pub receive_no : 2 ^ 62 < expected_of e.largest → receive_end e ≡ false
-  unfolding receive_end
-  receive_no p = lt-leb _ _ p
-
   pub receive_past : receive_end e ≡ false → 2 ^ 62 < expected_of e.largest
   unfolding receive_end
   receive_past t = leb-false _ _ t

@@ -1,40 +1,62 @@
 -- The cases of the sample's place, finish and the mask step, each from the tests that lead to it.
-use Prim.Native.Nat.{ℕ, zero, suc, ◌+◌, ◌-◌, ◌/◌, ◌%◌, ◌<◌, ◌≤◌}
+use Prim.Native.Nat.{ℕ, zero, suc, ◌+◌, ◌-◌, ◌/◌, ◌<◌, ◌≤◌}
 use mathlib.Core.Path.{◌≡◌, refl, sym, ap, ◌∙◌}
 use mathlib.Core.List.{List, [], ◌∷◌}
 use mathlib.Core.Bool.{Bool, true, false, ◌&&◌}
 use mathlib.Core.Option.{Option, none, some}
 use native.Mathlib.Nat.{not-suc-le-zero}
 use native.Mathlib.Omega.{arith}
-use lib.Bits.{bit_and, bit_xor}
+use lib.Bits.{bit_xor}
 use lib.Dec.{leb, eqb}
 use lib.ListN.{length, drop, set, length-drop, length-set}
-use borrow.Author.Tests.{lt-ltb, le-ltb, eq-eqb, ne_eqb, leb-true}
+use borrow.Author.Tests.{lt-ltb, le-ltb, eq-eqb, ne_eqb, leb-true, eqb-true}
 use Rattle.coding.specs.Words.{Answer, no, ok, max_datagram}
 use Rattle.coding.specs.Bytes.{byte_at}
-use Rattle.shared.specs.FirstByte.{long_header_form, long_reserved_bits, short_reserved_bits, key_phase_bit}
-use Rattle.shared.specs.declared.kinds.CutNumber.{CutNumber}
+use Rattle.shared.specs.FirstByte.{long_header_form}
 use Rattle.number.specs.Cutting.{tag_length, first_cut}
 use Rattle.protect.specs.Protection.{xor, xor_at, first_mask, number_mask, masked, applied, removed}
-use Rattle.protect.specs.Tests.{in_size, has_sample, form_bit, number_bytes, number_fits, least_header, header_tests}
+use Rattle.std.specs.Prelude.{if◌then◌else◌}
+use Rattle.std.specs.Int.{from_bool}
+use Rattle.protect.specs.Tests.{in_size, has_sample, maskable, form_bit, number_fits, least_header, header_tests}
 use Rattle.protect.specs.Steps.{read_off, left_by, Changed, sample_at, Opened, unnumbered, opened_by, opened, open_at, Opens, finish_at, finished, Finishes, protect_at, Protects, mask_number, mask_at, Masks}
-use Rattle.protect.specs.Said.{finished_of}
-use Rattle.protect.specs.declared.Finished.TheVariants as fin
 use Rattle.protect.proofs.Xor.{length_xor_at}
 use Rattle.protect.proofs.Parts.{first_stored}
 use Rattle.protect.proofs.Inside.{four_left}
 
--- ---- a test that a function of its own made, by what the code saw of it
-
-pub told : {r t : Bool} → r ≡ t → r ≡ true → t ≡ true
-told {r} e h = sym e ∙ h
-
-pub denied : {r t : Bool} → r ≡ t → r ≡ false → t ≡ false
-denied {r} e h = sym e ∙ h
-
 -- rule 8 has passed
-pub reaches : {r : Bool} (len at : ℕ) → r ≡ has_sample len at → r ≡ true → at + 20 ≤ len
-reaches {r} len at e h = omega (arith, leb-true (at + 4 + 16) len (sym e ∙ h))
+pub reaches : (len at : ℕ) → has_sample len at ≡ true → at + 20 ≤ len
+reaches len at h = omega (arith, leb-true (at + 4 + 16) len h)
+
+-- ---- what can be masked
+
+-- the form is the same bit, as the code has it
+pub form_is : (long : Bool) → from_bool long ≡ form_bit long
+form_is true = refl
+form_is false = refl
+
+-- what the two tests make of a packet that is changed
+abbrev then_ok : Answer (Unit {0}) → List ℕ → Answer (List ℕ)
+then_ok (no k) new = no k
+then_ok (ok u) new = ok new
+
+tests_as : (new : List ℕ) (s f : Bool) → (if s then (if f then ok new else no 14) else no 8) ≡ then_ok (if s then (if f then ok tt else no 14) else no 8) new
+tests_as new true true = refl
+tests_as new true false = refl
+tests_as new false f = refl
+
+module _ (long : Bool) (packet : List ℕ) (at : ℕ) where
+  pub record Maskable : Type 0 where
+    pub sampled : has_sample (length packet) at ≡ true
+    pub form : byte_at packet 0 / long_header_form ≡ form_bit long
+
+  pub maskable_is : ok tt ≡ maskable long packet at → Maskable
+  unfolding maskable
+  maskable_is e = go (has_sample (length packet) at) refl (eqb (byte_at packet 0 / long_header_form) (form_bit long)) refl
+    where
+      go : (s : Bool) → has_sample (length packet) at ≡ s → (f : Bool) → eqb (byte_at packet 0 / long_header_form) (form_bit long) ≡ f → Maskable
+      go true s true f = record { sampled = s; form = eqb-true _ _ f }
+      go true s false f = let q : ok tt ≡ no 14 = e ∙ simp (s, f) in absurd cc
+      go false s f g = let q : ok tt ≡ no 8 = e ∙ simp s in absurd cc
 
 -- ---- a call that changes a packet refuses, or has changed it
 
@@ -62,16 +84,6 @@ first_masked long mask (suc at) n (b ∷ l) h k = refl
 
 -- ---- finish
 
--- what is said of a long and of a short packet
-module _ (first : ℕ) (number : CutNumber) where
-  pub said_long : finished_of (fin.Long number (eqb (bit_and first long_reserved_bits) 0)) ≡ ok (opened_by true first number)
-  unfolding finished_of opened_by
-  said_long = refl
-
-  pub said_short : finished_of (fin.Short number (eqb (bit_and first short_reserved_bits) 0) (eqb (first / key_phase_bit % 2) 1)) ≡ ok (opened_by false first number)
-  unfolding finished_of opened_by
-  said_short = refl
-
 -- the mask takes none of the number's bytes away
 pub still_left : (packet ms : List ℕ) (at b n : ℕ) {new : List ℕ} → has_sample (length packet) at ≡ true → n ≤ 4 → new ≡ xor_at at ms (set packet 0 b)
     → at + n ≤ length new
@@ -85,15 +97,11 @@ module _ (long : Bool) (packet : List ℕ) (at : ℕ) (mask : List ℕ) where
   open_zero h = rw (eq-eqb at 0 h)
 
   module _ (h : at ≡ 0 → ⊥) where
-    pub open_short : has_sample (length packet) at ≡ false → open_at long packet at mask ≡ no 8
-    unfolding open_at
-    open_short k = rw (ne_eqb at 0 h, k)
+    pub open_no : {k : ℕ} → no k ≡ maskable long packet at → open_at long packet at mask ≡ no k
+    unfolding open_at maskable
+    open_no e = rw (ne_eqb at 0 h) (tests_as (removed long mask at packet) _ _ ∙ ap (λ (a : Answer (Unit {0})). then_ok a (removed long mask at packet)) (sym e))
 
     module _ (k : has_sample (length packet) at ≡ true) where
-      pub open_form : {bit : ℕ} → bit ≡ form_bit long → (byte_at packet 0 / long_header_form ≡ bit → ⊥) → open_at long packet at mask ≡ no 14
-      unfolding open_at
-      open_form e f = rw (ne_eqb at 0 h, k, ne_eqb (byte_at packet 0 / long_header_form) (form_bit long) (λ q. f (q ∙ sym e)))
-
       module _ (f : byte_at packet 0 / long_header_form ≡ form_bit long) where
         reach : at + 20 ≤ length packet
         reach = omega (arith, leb-true (at + 4 + 16) (length packet) k)
@@ -129,10 +137,6 @@ and_left false b h = h
 and_right : (a b : Bool) → (a && b) ≡ true → b ≡ true
 and_right true b h = h
 and_right false b h = let z : ◌≡◌ {A = ℕ} 0 1 = cc in absurd (omega arith)
-
-pub fits_le : (number : Option ℕ) → number_fits number ≡ true → number_bytes number ≤ 4
-fits_le none h = omega arith
-fits_le (some k) h = leb-true k 4 (and_right (leb 1 k) (leb k 4) h)
 
 -- what a header that passes has
 pub tests_room : (header_len k len : ℕ) (has_length : Bool) (number : Option ℕ)
@@ -204,25 +208,21 @@ finish_ok long packet at mask h z k f = rw (le-ltb max_datagram (length packet) 
 -- ---- the mask step
 
 module _ (long : Bool) (packet : List ℕ) (at : ℕ) (mask : List ℕ) where
-  pub protect_short : has_sample (length packet) at ≡ false → protect_at long packet at mask ≡ no 8
-  unfolding protect_at
-  protect_short k = rw k
+  pub protect_no : {k : ℕ} → no k ≡ maskable long packet at → protect_at long packet at mask ≡ no k
+  unfolding protect_at maskable
+  protect_no e = tests_as (applied long mask at packet) _ _ ∙ ap (λ (a : Answer (Unit {0})). then_ok a (applied long mask at packet)) (sym e)
 
-  module _ (k : has_sample (length packet) at ≡ true) {bit : ℕ} (e : bit ≡ form_bit long) where
-    pub protect_form : (byte_at packet 0 / long_header_form ≡ bit → ⊥) → protect_at long packet at mask ≡ no 14
+  module _ (k : has_sample (length packet) at ≡ true) (f : byte_at packet 0 / long_header_form ≡ form_bit long) where
+    pub protect_ok : protect_at long packet at mask ≡ ok (applied long mask at packet)
     unfolding protect_at
-    protect_form f = rw (k, ne_eqb (byte_at packet 0 / long_header_form) (form_bit long) (λ q. f (q ∙ sym e)))
+    protect_ok = rw (k, eq-eqb (byte_at packet 0 / long_header_form) (form_bit long) f)
 
-    pub protect_ok : byte_at packet 0 / long_header_form ≡ bit → protect_at long packet at mask ≡ ok (applied long mask at packet)
-    unfolding protect_at
-    protect_ok f = rw (k, eq-eqb (byte_at packet 0 / long_header_form) (form_bit long) (f ∙ e))
-
-    pub protect_done : {n m : ℕ} {new : List ℕ} → byte_at packet 0 / long_header_form ≡ bit → m ≡ first_mask long (byte_at mask 0) → n ≡ tag_length (byte_at packet 0)
+    pub protect_done : {n m : ℕ} {new : List ℕ} → m ≡ first_mask long (byte_at mask 0) → n ≡ tag_length (byte_at packet 0)
         → new ≡ xor_at at (number_mask n mask) (set packet 0 (bit_xor (byte_at packet 0) m)) → protect_at long packet at mask ≡ ok new
     unfolding applied
-    protect_done {n} {m} f em en ep =
+    protect_done {n} {m} em en ep =
         let h : 0 < length packet = omega (arith, leb-true (at + 4 + 16) (length packet) k) in
-        protect_ok f ∙ ap ok (sym (ep ∙ first_stored long mask at n m packet h em ∙ ap (λ (j : ℕ). masked long mask at j packet) en))
+        protect_ok ∙ ap ok (sym (ep ∙ first_stored long mask at n m packet h em ∙ ap (λ (j : ℕ). masked long mask at j packet) en))
 
 module _ (header_len : ℕ) (number : Option ℕ) (has_length : Bool) (packet mask : List ℕ) where
   pub mask_no : header_tests header_len number has_length (length packet) ≡ false → mask_at header_len number has_length packet mask ≡ no 14
@@ -243,4 +243,4 @@ pub mask_ok : (header_len k : ℕ) (has_length : Bool) (packet mask : List ℕ) 
     → has_sample (length packet) (header_len - k) ≡ true → byte_at packet 0 / long_header_form ≡ form_bit has_length
     → mask_at header_len (some k) has_length packet mask ≡ ok (applied has_length mask (header_len - k) packet)
 unfolding mask_at mask_number
-mask_ok header_len k has_length packet mask t s f = rw t (protect_ok has_length packet (header_len - k) mask s refl f)
+mask_ok header_len k has_length packet mask t s f = rw t (protect_ok has_length packet (header_len - k) mask s f)

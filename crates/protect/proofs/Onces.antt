@@ -4,9 +4,11 @@ use mathlib.Core.List.{List}
 use Prim.Native.Nat.{ℕ}
 use Rattle.coding.specs.Once.{Once}
 use Rattle.coding.proofs.Onces.{seen, one_part}
+use Rattle.std.specs.Prelude.{Option, Result}
+use Rattle.coding.specs.declared.refusal.Refusal.{Refusal}
+use Rattle.coding.proofs.Inverse.{answer_one}
 use Rattle.protect.specs.declared.Finished.{Finished}
-use Rattle.protect.specs.declared.Masked.{Masked}
-use Rattle.protect.proofs.Inverse.{sample_one, finished_one, masked_one}
+use Rattle.protect.proofs.Inverse.{sample_one, finished_one}
 use Rattle.protect.specs.contracts.Kind.is_long as is_long
 use Rattle.protect.proofs.Kind.is_long.Reads as is_long_reads
 use Rattle.protect.specs.contracts.Kind.has_number as has_number
@@ -38,7 +40,7 @@ sample_place_once : Once sample_place.ended sample_place_reads.Post (λ κs x s.
 unfolding Once
 sample_place_once κs a x y s t p q = sample_one x y _ p q
 
-finish_once : Once {B = Finished × List ℕ} finish.ended finish_reads.Post (λ κs x s. (x, s.1.0.now))
+finish_once : Once {B = Result (Option Finished) Refusal × List ℕ} finish.ended finish_reads.Post (λ κs x s. (x, s.1.0.now))
 unfolding Once
 finish_once κs a x y s t p q i = (finished_one x y _ p.says q.says i, (p.leaves ∙ sym q.leaves) i)
 
@@ -58,6 +60,6 @@ header_tests_once : Once header_tests.ended header_tests_reads.Post (λ κs x s.
 unfolding Once
 header_tests_once κs a x y s t p q = p ∙ sym q
 
-mask_once : Once {B = Masked × List ℕ} mask.ended mask_reads.Post (λ κs x s. (x, s.1.1.1.0.now))
+mask_once : Once {B = Result Unit Refusal × List ℕ} mask.ended mask_reads.Post (λ κs x s. (x, s.1.1.1.0.now))
 unfolding Once
-mask_once κs a x y s t p q i = (masked_one x y _ p.says q.says i, (p.leaves ∙ sym q.leaves) i)
+mask_once κs a x y s t p q i = (answer_one x y _ p.says q.says i, (p.leaves ∙ sym q.leaves) i)

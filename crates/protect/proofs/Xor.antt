@@ -1,48 +1,18 @@
 -- Bytes XORed over bytes.
-use Prim.Native.Nat.{ℕ, zero, suc, ◌+◌, ◌*◌, ◌/◌, ◌%◌, ◌<◌, ◌≤◌}
+use Prim.Native.Nat.{ℕ, zero, suc, ◌+◌, ◌<◌, ◌≤◌}
 use mathlib.Core.Path.{◌≡◌, refl, sym, ap, ap₂, ◌∙◌}
-use mathlib.Core.List.{List, [], ◌∷◌}
-use native.Mathlib.Nat.{mod-lt, div-add-mod', not-suc-le-zero, le_of_suc-le-suc}
+use mathlib.Core.List.{List, [], ◌∷◌, ◌++◌, append-nil}
+use native.Mathlib.Nat.{not-suc-le-zero, le_of_suc-le-suc}
 use native.Mathlib.Numerals.{add-one}
 use native.Mathlib.Omega.{arith}
-use lib.Arith.{bin_ind, digits_div, digits_mod}
-use lib.Bits.{bit_xor, differ, xor_step, xor_self}
-use lib.Dec.{lit<}
-use lib.Seq.{get_or-drop}
-use lib.ListN.{length, get_or, set, take, drop, length-append, length-take, length-drop}
+use lib.Bits.{bit_xor, xor_assoc, xor_self, xor_zero_r}
+use lib.Seq.{get_or-drop, take_all, drop-length}
+use lib.ListN.{length, get_or, set, take, drop, length-append, length-take, length-drop, take-append-drop}
 use Rattle.protect.specs.Protection.{xor, xor_at}
 
--- ---- two numbers: XORed twice, a number comes back
-
-differ_lt : (x y : ℕ) → x < 2 → y < 2 → differ x y < 2
-differ_lt zero y hx hy = hy
-differ_lt (suc x) zero hx hy = hx
-differ_lt (suc zero) (suc zero) hx hy = lit< tt
-differ_lt (suc zero) (suc (suc y)) hx hy = absurd (not-suc-le-zero (le_of_suc-le-suc (le_of_suc-le-suc hy)))
-differ_lt (suc (suc x)) (suc y) hx hy = absurd (not-suc-le-zero (le_of_suc-le-suc (le_of_suc-le-suc hx)))
-
-differ_twice : (x y : ℕ) → x < 2 → y < 2 → differ (differ x y) y ≡ x
-differ_twice zero zero hx hy = refl
-differ_twice zero (suc zero) hx hy = refl
-differ_twice zero (suc (suc y)) hx hy = absurd (not-suc-le-zero (le_of_suc-le-suc (le_of_suc-le-suc hy)))
-differ_twice (suc x) zero hx hy = refl
-differ_twice (suc zero) (suc zero) hx hy = refl
-differ_twice (suc zero) (suc (suc y)) hx hy = absurd (not-suc-le-zero (le_of_suc-le-suc (le_of_suc-le-suc hy)))
-differ_twice (suc (suc x)) (suc y) hx hy = absurd (not-suc-le-zero (le_of_suc-le-suc (le_of_suc-le-suc hx)))
-
-low : (n : ℕ) → n % 2 < 2
-low n = mod-lt n (lit< tt)
-
+-- XORed twice, a number comes back
 pub xor_twice : (a m : ℕ) → bit_xor (bit_xor a m) m ≡ a
-xor_twice = bin_ind (λ (n : ℕ). (m : ℕ) → bit_xor (bit_xor n m) m ≡ n) xor_self (λ n ih m.
-    xor_step (bit_xor n m) m
-    ∙ ap₂ (λ (x y : ℕ). bit_xor x (m / 2) * 2 + differ y (m % 2))
-    (ap (λ (x : ℕ). x / 2) (xor_step n m) ∙ digits_div (bit_xor (n / 2) (m / 2)) (differ_lt _ _ (low n) (low m)))
-    (ap (λ (x : ℕ). x % 2) (xor_step n m) ∙ digits_mod (bit_xor (n / 2) (m / 2)) (differ_lt _ _ (low n) (low m)))
-    ∙ ap₂ (λ (x y : ℕ). x * 2 + y) (ih (m / 2)) (differ_twice _ _ (low n) (low m))
-    ∙ div-add-mod' n 2)
-
--- ---- two lists
+xor_twice a m = rw (xor_assoc, xor_self, xor_zero_r)
 
 pub xor_back : (ms l : List ℕ) → xor ms (xor ms l) ≡ l
 unfolding xor
@@ -78,10 +48,6 @@ xor_past (m ∷ ms) (b ∷ l) zero h = absurd (not-suc-le-zero h)
 xor_past (m ∷ ms) (b ∷ l) (suc i) h = xor_past ms l i (le_of_suc-le-suc h)
 
 -- a turn of the loop, with the mask's bytes from its second on
-pub xor_none : (l : List ℕ) → l ≡ xor [] l
-unfolding xor
-xor_none l = refl
-
 pub xor_on : (mask l part : List ℕ) (i : ℕ) → part ≡ xor (take i (drop 1 mask)) l → i < length l → i + 1 < length mask
     → set part i (bit_xor (get_or part i 0) (get_or mask (i + 1) 0)) ≡ xor (take (i + 1) (drop 1 mask)) l
 xor_on mask l part i e h k =
@@ -89,3 +55,15 @@ xor_on mask l part i e h k =
     let j : i < length ms = simp length-drop (omega arith) in
     let g : get_or ms i 0 ≡ get_or mask (suc i) 0 = get_or-drop 1 mask i 0 ∙ ap (λ (j : ℕ). get_or mask j 0) (omega arith) in
     rw (e, add-one) (ap (λ (x : ℕ). set (xor (take i ms) l) i (bit_xor (get_or (xor (take i ms) l) i 0) x)) (sym g) ∙ xor_more ms l i h j)
+
+-- no more bytes are looked at than there are to XOR over, and of n of them no more than n
+pub xor_take : (n : ℕ) (ms l : List ℕ) → xor (take n ms) l ≡ xor ms (take n l) ++ drop n l
+unfolding xor
+xor_take zero [] l = refl
+xor_take zero (m ∷ ms) l = refl
+xor_take (suc n) [] l = sym (take-append-drop (suc n) l)
+xor_take (suc n) (m ∷ ms) [] = refl
+xor_take (suc n) (m ∷ ms) (b ∷ l) = ap (λ (r : List ℕ). bit_xor b m ∷ r) (xor_take n ms l)
+
+pub xor_whole : (ms l : List ℕ) → xor (take (length l) ms) l ≡ xor ms l
+xor_whole ms l = xor_take (length l) ms l ∙ rw (take_all (length l) l (omega arith), drop-length l) (append-nil _)

@@ -1,7 +1,9 @@
 -- What is tested before a packet is masked or unmasked: document 01, "Numbers we hold to" and "From datagram to packets".
-use Rattle.std.specs.Prelude.{ℕ, ◌+◌, List, Bool, true, false, ◌&&◌, length, ltb, leb, if◌then◌else◌}
+use Rattle.std.specs.Prelude.{ℕ, ◌+◌, ◌/◌, List, Bool, true, false, ◌&&◌, length, ltb, leb, eqb, if◌then◌else◌}
 use Rattle.std.proofs.Math.Option.{Option, none, some}
-use Rattle.coding.specs.Words.{Answer, no, max_datagram}
+use Rattle.coding.specs.Words.{Answer, no, ok, max_datagram}
+use Rattle.coding.specs.Bytes.{byte_at}
+use Rattle.shared.specs.FirstByte.{long_header_form}
 
 -- a packet has at most 65,527 bytes: past that it is 14
 unfoldable pub in_size : {A : Type 0} → List ℕ → Answer A → Answer A
@@ -15,6 +17,13 @@ has_sample len at = leb (at + 4 + 16) len
 abbrev pub form_bit : Bool → ℕ
 form_bit true = 1
 form_bit false = 0
+
+-- what can be masked or unmasked: rule 8 passes, and then the first byte has the form
+unfoldable pub maskable : Bool → List ℕ → ℕ → Answer (Unit {0})
+maskable is_long packet at =
+    if has_sample (length packet) at then
+    (if eqb (byte_at packet 0 / long_header_form) (form_bit is_long) then ok tt else no 14)
+    else no 8
 
 -- a header's number, where it has one: its bytes, and its rule, 1 to 4 of them
 abbrev pub number_bytes : Option ℕ → ℕ

@@ -1,11 +1,7 @@
-use Prim.Native.Nat.{◌+◌, ◌-◌, ◌*◌, ◌^◌, ◌≤◌}
-use mathlib.Core.Path.{◌≡◌}
-use lib.ListN.{take, drop}
+use Rattle.std.proofs.Common.{◌≡◌, ◌+◌, ◌*◌, ◌-◌, ◌^◌, ◌≤◌, take, drop}
 use Rattle.coding.specs.Bytes.{be}
 use Rattle.protect.proofs.decode.Given as goal
 
-abbrev pub invariant-loop-i : goal.invariant-loop-i
-invariant-loop-i l = (l.i ≤ l.len) × ((l.value ≡ be 0 (take l.i (drop l.number_offset l.packet))) × ((l.value + 1) * 256 ^ (l.len - l.i) ≤ 256 ^ l.len))
-
-abbrev pub decreases-loop-i : goal.decreases-loop-i
-decreases-loop-i l = l.len - l.i
+abbrev pub invariant-loop-b : goal.invariant-loop-b
+invariant-loop-b l =
+    (l.value ≡ be 0 (take l.b-index (drop l.number_offset l.packet))) × ((l.value + 1) * 256 ^ (l.len - l.b-index) ≤ 256 ^ l.len)

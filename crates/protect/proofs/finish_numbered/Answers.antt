@@ -1,50 +1,42 @@
-use lib.ListN.{length}
-use Prim.Native.Nat.{◌≤◌}
-use mathlib.Core.Path.{◌∙◌}
-use native.Mathlib.Omega.{arith}
-use Rattle.protect.specs.Said.{finished_of}
-use Rattle.protect.proofs.Cases.{told, denied, reaches, changed_no, open_zero, open_short, open_form, still_left, open_done}
-use borrow.Author.Rules.{rules}
+use Rattle.std.proofs.Common.{◌≤◌, length, rules, arith, ap, ◌∙◌}
+use Rattle.std.proofs.lemmas.Result.{err_from_is_err_and}
+use Rattle.coding.specs.Words.{ok}
+use Rattle.coding.specs.Said.{answer_of}
+use Rattle.protect.specs.Said.{opens_of}
+use Rattle.protect.proofs.Cases.{reaches, maskable_is, changed_no, open_zero, open_no, still_left, open_done}
 use Rattle.protect.proofs.finish_numbered.Goals as goal
 
 pub returns-then-number_offset-eq0 : goal.returns-then-number_offset-eq0
-unfolding finished_of
+unfolding opens_of
 returns-then-number_offset-eq0 c = changed_no _ _ (open_zero _ _ _ _ c.if-number_offset-eq0.true)
 
-pub returns-then-not-has_sample : goal.returns-then-not-has_sample
-unfolding finished_of
-returns-then-not-has_sample c = changed_no _ _ (open_short _ _ _ _ c.if-number_offset-eq0.false (denied c.has_sample.ensures c.if-not-has_sample.true))
+pub returns-in_err-maskable : goal.returns-in_err-maskable
+unfolding answer_of opens_of
+returns-in_err-maskable c =
+    let p = err_from_is_err_and c.from_residual.result c.from_residual.ensures.1 in
+    rw (p.1, p.2) (changed_no _ _ (open_no _ _ _ _ c.if-number_offset-eq0.false c.in_err-maskable.ensures))
 
 pub bounds-packet-0 : goal.bounds-packet-0
+unfolding answer_of
 bounds-packet-0 c =
-    let a = c.args in
-    let h = reaches (length a.packet.now) a.number_offset c.has_sample.ensures c.if-not-has_sample.false in
-    search rules
-
-pub returns-then-packet-form_bit : goal.returns-then-packet-form_bit
-unfolding finished_of
-returns-then-packet-form_bit c =
-    changed_no _ _
-    (open_form _ _ _ _ c.if-number_offset-eq0.false (told c.has_sample.ensures c.if-not-has_sample.false) c.form_bit.ensures c.if-packet-form_bit.true)
-
-pub bounds-packet-0-2 : goal.bounds-packet-0-2
-bounds-packet-0-2 c =
-    let a = c.args in
-    let h = reaches (length a.packet.now) a.number_offset c.has_sample.ensures c.if-not-has_sample.false in
+    let h = reaches (length c.args.packet.now) c.args.number_offset (maskable_is _ _ _ c.in_ok-maskable.ensures).sampled in
     search rules
 
 pub mask_header-requires : goal.mask_header-requires
+unfolding answer_of
 mask_header-requires c =
-    let a = c.args in
-    let h = reaches (length a.packet.now) a.number_offset c.has_sample.ensures c.if-not-has_sample.false in
+    let h = reaches (length c.args.packet.now) c.args.number_offset (maskable_is _ _ _ c.in_ok-maskable.ensures).sampled in
     (omega (arith, c.decode_len-len.ensures), omega arith)
 
 pub decode-number-requires : goal.decode-number-requires
+unfolding answer_of
 decode-number-requires c =
     let k : c.decode_len-len.result ≤ 4 = omega (arith, c.decode_len-len.ensures) in
-    (k, still_left c.args.packet.now _ _ _ _ (told c.has_sample.ensures c.if-not-has_sample.false) k c.mask_header.ensures)
+    (k, still_left c.args.packet.now _ _ _ _ (maskable_is _ _ _ c.in_ok-maskable.ensures).sampled k c.mask_header.ensures)
 
 pub returns : goal.returns
+unfolding answer_of opens_of
 returns c =
-    open_done _ _ _ _ c.if-number_offset-eq0.false (told c.has_sample.ensures c.if-not-has_sample.false) (c.if-packet-form_bit.false ∙ c.form_bit.ensures) _ _ _
-    c.first_mask.ensures c.decode_len-len.ensures c.mask_header.ensures _ (c.say_opened.ensures ∙ rw c.decode-number.ensures)
+    let m = maskable_is _ _ _ c.in_ok-maskable.ensures in
+    open_done _ _ _ _ c.if-number_offset-eq0.false m.sampled m.form _ _ _
+    c.first_mask.ensures c.decode_len-len.ensures c.mask_header.ensures _ (ap ok (c.opened.ensures ∙ rw c.decode-number.ensures))
