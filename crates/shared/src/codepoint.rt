@@ -1,4 +1,6 @@
 // Explicit congestion notification (shared.rs; RFC 3168, section 5).
+#![tactic(auto, unfolding(crate::specs::Ecn::ecn_bits))]
+
 ghost use Rattle.std.specs.Prelude.{◌≡◌, eqb};
 ghost use Rattle.shared.specs.Ecn.{ecn_bits};
 ghost use Rattle.shared.specs.Said.{ecn_of, ecn_read_of};

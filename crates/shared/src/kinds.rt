@@ -1,4 +1,6 @@
 // Kinds of number that are not to be taken for each other (lib.rs; frame.rs; packet.rs, PacketNumber).
+#![tactic(auto, unfolding(crate::specs::Streams::initiator_of, crate::specs::Streams::dir_of, crate::specs::Streams::index_of, crate::specs::Streams::stream_id, crate::specs::Streams::stream_made, crate::specs::Said::stream_of))]
+
 ghost use Rattle.std.specs.Prelude.{◌≡◌, ◌-◌, ◌≤◌, eqb};
 ghost use Rattle.shared.specs.Streams.{initiator_of, dir_of, index_of, stream_made};
 ghost use Rattle.shared.specs.Said.{side_bit, dir_bit, stream_of};
