@@ -1,38 +1,52 @@
 -- Each map from the code's answers to the paper's words has an inverse: what is said settles the answer.
-use mathlib.Core.Path.{◌≡◌, refl, ap}
+use mathlib.Core.Path.{◌≡◌, refl, sym, ap, ◌∙◌}
 use mathlib.Core.Option.{Option, none, some}
-use Prim.Native.Nat.{ℕ}
 use mathlib.Core.Bool.{cond}
+use Prim.Native.Nat.{ℕ}
 use lib.Dec.{eqb}
+use borrow.Author.Tests.{ne_eqb}
+use Rattle.std.specs.Prelude.{Result, Ok, Err, Some, None}
+use Rattle.std.specs.Prelude.{Option as Maybe}
 use Rattle.coding.specs.Words.{Answer, no, ok}
-use Rattle.coding.specs.declared.Place.{Place}
+use Rattle.coding.specs.Refusals.{number_of}
+use Rattle.coding.specs.declared.refusal.Refusal.{Refusal}
+use Rattle.coding.specs.declared.refusal.Refusal.TheVariants as refusal
 use Rattle.coding.proofs.Numbers.{refusal_of, refusal_back}
-use Rattle.coding.proofs.Inverse.{one_by}
+use Rattle.coding.proofs.Inverse.{one_by, answered}
+use Rattle.packet.proofs.Unlisted.{Named}
 use Rattle.packet.specs.TypeBits.{PacketType}
 use Rattle.packet.specs.TypeBits as type
-use Rattle.packet.specs.Header.{Header, initial, zero_rtt, handshake, retry, short, negotiate, Outcome}
-use Rattle.packet.specs.Split.{Split}
+use Rattle.packet.specs.Header.{Header, initial, zero_rtt, handshake, retry, short, negotiate, Outcome, refused_header}
+use Rattle.packet.specs.Split.{Split, no_packet}
 use Rattle.packet.specs.Walk.{Met, at_end, packet, refused_at, PacketStep}
-use Rattle.packet.specs.Said.{long_of, long_type_of, header_of, outcome_of, len_of, space_of, rest_of, split_of, met_of, packet_step_of}
+use Rattle.packet.specs.Said.{option_of, long_of, long_type_of, header_of, space_of, decoded_of, error_of, outcome_of, partial_of, split_of, packet_step_of}
+use Rattle.packet.specs.declared.error.PacketDecodeError.{PacketDecodeError}
+use Rattle.packet.specs.declared.error.PacketDecodeError.TheVariants as error
 use Rattle.packet.specs.declared.header.LongType.TheVariants as ty
 use Rattle.packet.specs.declared.header.LongHeaderType.{LongHeaderType}
 use Rattle.packet.specs.declared.header.LongHeaderType.TheVariants as kind
 use Rattle.packet.specs.declared.header.ProtectedHeader.{ProtectedHeader}
 use Rattle.packet.specs.declared.header.ProtectedHeader.TheVariants as head
 use Rattle.packet.specs.declared.header.Decoded.{Decoded}
+use Rattle.packet.specs.declared.header.SpaceId.{SpaceId}
 use Rattle.packet.specs.declared.header.SpaceId.TheVariants as id
-use Rattle.packet.specs.declared.header.Space.{Space}
-use Rattle.packet.specs.declared.header.Space.TheVariants as space
-use Rattle.packet.specs.declared.header.PayloadLen.{PayloadLen}
-use Rattle.packet.specs.declared.header.PayloadLen.TheVariants as payload
 use Rattle.packet.specs.declared.partial.PartialDecode.{PartialDecode}
-use Rattle.packet.specs.declared.partial.Rest.{Rest}
-use Rattle.packet.specs.declared.partial.Rest.TheVariants as rest
-use Rattle.packet.specs.declared.walk.Found.{Found}
-use Rattle.packet.specs.declared.walk.Found.TheVariants as found
 use Rattle.packet.specs.declared.walk.Stepped.{Stepped}
+use Rattle.packet.specs.declared.walk.StepError.{StepError}
 
--- ---- headers
+-- ---- what is asked of a header
+
+abbrev option_back : {A : Type 0} → Option A → Maybe A
+option_back none = None
+option_back (some a) = Some a
+
+option_back_law : {A : Type 0} (o : Maybe A) → option_back (option_of o) ≡ o
+unfolding option_of
+option_back_law None = refl
+option_back_law (Some a) = refl
+
+pub option_one : {A : Type 0} (x y : Maybe A) (o : Option A) → option_of x ≡ o → option_of y ≡ o → x ≡ y
+option_one = one_by option_of option_back option_back_law
 
 abbrev kind_back : PacketType → LongHeaderType
 kind_back type.initial = kind.Initial
@@ -50,14 +64,29 @@ kind_one = one_by long_type_of kind_back back
     back (kind.Standard ty.Handshake) = refl
     back (kind.Standard ty.ZeroRtt) = refl
 
-abbrev header_back : Answer Header → ProtectedHeader
-header_back (no k) = head.Refused (refusal_of k)
-header_back (ok (initial token len)) = head.Initial token len
-header_back (ok (zero_rtt len)) = head.Long ty.ZeroRtt len
-header_back (ok (handshake len)) = head.Long ty.Handshake len
-header_back (ok retry) = head.Retry
-header_back (ok (short spin)) = head.Short spin
-header_back (ok (negotiate random)) = head.VersionNegotiate random
+abbrev space_back : Option ℕ → Maybe SpaceId
+space_back none = None
+space_back (some n) = Some (cond (eqb n 0) id.Initial (cond (eqb n 1) id.Handshake id.Data))
+
+pub space_one : (x y : Maybe SpaceId) (o : Option ℕ) → space_of x ≡ o → space_of y ≡ o → x ≡ y
+unfolding space_of
+space_one = one_by space_of space_back back
+  where
+    back : (x : Maybe SpaceId) → space_back (space_of x) ≡ x
+    back (Some id.Initial) = refl
+    back (Some id.Handshake) = refl
+    back (Some id.Data) = refl
+    back None = refl
+
+-- ---- headers
+
+abbrev header_back : Header → ProtectedHeader
+header_back (initial token len) = head.Initial token len
+header_back (zero_rtt len) = head.Long ty.ZeroRtt len
+header_back (handshake len) = head.Long ty.Handshake len
+header_back retry = head.Retry
+header_back (short spin) = head.Short spin
+header_back (negotiate random) = head.VersionNegotiate random
 
 header_back_law : (h : ProtectedHeader) → header_back (header_of h) ≡ h
 unfolding header_of long_of
@@ -67,84 +96,75 @@ header_back_law (head.Long ty.ZeroRtt len) = refl
 header_back_law head.Retry = refl
 header_back_law (head.Short spin) = refl
 header_back_law (head.VersionNegotiate random) = refl
-header_back_law (head.Refused why) = ap head.Refused (refusal_back why)
 
 abbrev decoded_back : Outcome → Decoded
-decoded_back o = record { header = header_back o.said; dst_cid = o.dst; src_cid = o.src; version = o.version; number_offset = o.end }
+decoded_back o = record { header = answered (λ k. head.Retry) header_back o.said; dst_cid = o.dst; src_cid = o.src; version = o.version; number_offset = o.end }
 
-decoded_back_law : (d : Decoded) → decoded_back (outcome_of d) ≡ d
-unfolding outcome_of
+decoded_back_law : (d : Decoded) → decoded_back (decoded_of d) ≡ d
+unfolding decoded_of
 decoded_back_law d = rw (header_back_law d.header)
 
-pub decoded_one : (x y : Decoded) (o : Outcome) → outcome_of x ≡ o → outcome_of y ≡ o → x ≡ y
-decoded_one = one_by outcome_of decoded_back decoded_back_law
+-- ---- refusals: 4 comes with a version that is not 0
 
--- ---- what is asked of a header
+abbrev error_back : Outcome → PacketDecodeError
+error_back o =
+    answered (λ k. cond (eqb k 4) (error.UnsupportedVersion o.dst o.src o.version) (error.Refused (refusal_of k))) (λ h. error.Refused refusal.Argument) o.said
 
-abbrev len_back : Option ℕ → PayloadLen
-len_back none = payload.Nothing
-len_back (some n) = payload.Bytes n
+not_four : (k : ℕ) (x y : PacketDecodeError) → (k ≡ 4 → ⊥) → cond (eqb k 4) x y ≡ y
+not_four k x y h = rw (ne_eqb k 4 h)
 
-pub len_one : (x y : PayloadLen) (o : Option ℕ) → len_of x ≡ o → len_of y ≡ o → x ≡ y
-unfolding len_of
-len_one = one_by len_of len_back back
+error_back_law : (e : PacketDecodeError) → Named (error_of e) → error_back (error_of e) ≡ e
+unfolding error_of refused_header
+error_back_law (error.UnsupportedVersion dst src v) n = refl
+error_back_law (error.Refused why) n = not_four (number_of why) _ _ (λ z. n (ap no z) refl) ∙ ap error.Refused (refusal_back why)
+
+-- two that say the same are the same, where what is said has a way back
+one_where : {A B : Type 0} (f : A → B) (g : B → A) (P : B → Type 0) → ((a : A) → P (f a) → g (f a) ≡ a) → (x y : A) (b : B) → P b → f x ≡ b → f y ≡ b → x ≡ y
+one_where f g P back x y b h p q = sym (back x (rw p h)) ∙ ap g (p ∙ sym q) ∙ back y (rw q h)
+
+abbrev outcome_back : Outcome → Result Decoded PacketDecodeError
+outcome_back o = answered (λ k. Err (error_back o)) (λ h. Ok (decoded_back o)) o.said
+
+pub outcome_one : (x y : Result Decoded PacketDecodeError) (o : Outcome) → Named o → outcome_of x ≡ o → outcome_of y ≡ o → x ≡ y
+unfolding outcome_of decoded_of error_of refused_header
+outcome_one = one_where outcome_of outcome_back Named back
   where
-    back : (p : PayloadLen) → len_back (len_of p) ≡ p
-    back (payload.Bytes n) = refl
-    back payload.Nothing = refl
-
-abbrev space_back : Option ℕ → Space
-space_back none = space.Nothing
-space_back (some n) = cond (eqb n 0) (space.In id.Initial) (cond (eqb n 1) (space.In id.Handshake) (space.In id.Data))
-
-pub space_one : (x y : Space) (o : Option ℕ) → space_of x ≡ o → space_of y ≡ o → x ≡ y
-unfolding space_of
-space_one = one_by space_of space_back back
-  where
-    back : (x : Space) → space_back (space_of x) ≡ x
-    back (space.In id.Initial) = refl
-    back (space.In id.Handshake) = refl
-    back (space.In id.Data) = refl
-    back space.Nothing = refl
+    back : (r : Result Decoded PacketDecodeError) → Named (outcome_of r) → outcome_back (outcome_of r) ≡ r
+    back (Ok d) n = ap Ok (decoded_back_law d)
+    back (Err (error.UnsupportedVersion dst src v)) n = refl
+    back (Err (error.Refused why)) n = ap Err (error_back_law (error.Refused why) n)
 
 -- ---- splits and steps
 
-abbrev rest_back : Option Place → Rest
-rest_back none = rest.Nothing
-rest_back (some p) = rest.At p
+abbrev partial_back : Split → PartialDecode
+partial_back x = record { plain_header = decoded_back x.header; packet = x.packet; rest = option_back x.rest }
 
-rest_back_law : (r : Rest) → rest_back (rest_of r) ≡ r
-unfolding rest_of
-rest_back_law (rest.At p) = refl
-rest_back_law rest.Nothing = refl
+partial_back_law : (d : PartialDecode) → partial_back (partial_of d) ≡ d
+unfolding partial_of
+partial_back_law d = rw (decoded_back_law d.plain_header, option_back_law d.rest)
 
-abbrev split_back : Split → PartialDecode
-split_back x = record { plain_header = decoded_back x.header; packet = x.packet; rest = rest_back x.rest }
+abbrev split_back : Split → Result PartialDecode PacketDecodeError
+split_back x = answered (λ k. Err (error_back x.header)) (λ h. Ok (partial_back x)) x.header.said
 
-pub split_one : (x y : PartialDecode) (o : Split) → split_of x ≡ o → split_of y ≡ o → x ≡ y
-unfolding split_of
-split_one = one_by split_of split_back back
+pub split_one : (x y : Result PartialDecode PacketDecodeError) (o : Split) → Named o.header → split_of x ≡ o → split_of y ≡ o → x ≡ y
+unfolding split_of decoded_of error_of refused_header partial_of no_packet
+split_one = one_where split_of split_back (λ o. Named o.header) back
   where
-    back : (d : PartialDecode) → split_back (split_of d) ≡ d
-    back d = rw (decoded_back_law d.plain_header, rest_back_law d.rest)
+    back : (r : Result PartialDecode PacketDecodeError) → Named (split_of r).header → split_back (split_of r) ≡ r
+    back (Ok d) n = ap Ok (partial_back_law d)
+    back (Err (error.UnsupportedVersion dst src v)) n = refl
+    back (Err (error.Refused why)) n = ap Err (error_back_law (error.Refused why) n)
 
-abbrev met_back : Met → Found
-met_back at_end = found.End
-met_back (packet start len) = found.Packet (record { start = start; len = len })
-met_back (refused_at start) = found.Refused start
+abbrev step_met : Met → Outcome → Result (Maybe Stepped) StepError
+step_met at_end o = Ok None
+step_met (packet start len) o = Ok (Some (record { packet = record { start = start; len = len }; plain_header = decoded_back o }))
+step_met (refused_at start) o = Err (record { start = start; why = error_back o })
 
-met_back_law : (f : Found) → met_back (met_of f) ≡ f
-unfolding met_of
-met_back_law found.End = refl
-met_back_law (found.Packet p) = refl
-met_back_law (found.Refused start) = refl
-
-abbrev step_back : PacketStep → Stepped
-step_back x = record { found = met_back x.met; plain_header = decoded_back x.header }
-
-pub step_one : (x y : Stepped) (o : PacketStep) → packet_step_of x ≡ o → packet_step_of y ≡ o → x ≡ y
+pub step_one : (x y : Result (Maybe Stepped) StepError) (o : PacketStep) → Named o.header → packet_step_of x ≡ o → packet_step_of y ≡ o → x ≡ y
 unfolding packet_step_of
-step_one = one_by packet_step_of step_back back
+step_one = one_where packet_step_of (λ x. step_met x.met x.header) (λ o. Named o.header) back
   where
-    back : (x : Stepped) → step_back (packet_step_of x) ≡ x
-    back x = rw (met_back_law x.found, decoded_back_law x.plain_header)
+    back : (r : Result (Maybe Stepped) StepError) → Named (packet_step_of r).header → step_met (packet_step_of r).met (packet_step_of r).header ≡ r
+    back (Ok (Some x)) n = rw (decoded_back_law x.plain_header)
+    back (Ok None) n = refl
+    back (Err e) n = rw (error_back_law e.why n)

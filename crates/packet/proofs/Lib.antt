@@ -5,6 +5,7 @@
 -- `Onces` that each public function has only one answer.
 pub mod Cases
 pub mod Types
+pub mod Ways
 pub mod Within
 pub mod Unlisted
 pub mod Same

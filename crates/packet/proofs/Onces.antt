@@ -1,8 +1,20 @@
 -- Only one answer meets the contract of each public function.
-use mathlib.Core.Path.{◌∙◌, sym}
+use mathlib.Core.Path.{◌≡◌, ◌∙◌, sym, ap}
+use Prim.Native.Nat.{ℕ}
 use Rattle.coding.specs.Once.{Once}
+use Rattle.coding.specs.Refusals.{number_of}
 use Rattle.coding.proofs.Onces.{seen, one_part}
-use Rattle.packet.proofs.Inverse.{kind_one, decoded_one, len_one, space_one, split_one, step_one}
+use Rattle.coding.proofs.Numbers.{refusal_of, refusal_back}
+use Rattle.packet.proofs.Unlisted.{header_named, split_named, step_named}
+use Rattle.packet.proofs.Inverse.{kind_one, option_one, space_one, outcome_one, split_one, step_one}
+use Rattle.packet.specs.contracts.error.PacketDecodeError.refusal as refusal
+use Rattle.packet.proofs.error.PacketDecodeError.refusal.Reads as refusal_reads
+use Rattle.packet.specs.contracts.error.PacketDecodeError.dst_cid as refused_dst
+use Rattle.packet.proofs.error.PacketDecodeError.dst_cid.Reads as refused_dst_reads
+use Rattle.packet.specs.contracts.error.PacketDecodeError.src_cid as refused_src
+use Rattle.packet.proofs.error.PacketDecodeError.src_cid.Reads as refused_src_reads
+use Rattle.packet.specs.contracts.error.PacketDecodeError.version as refused_version
+use Rattle.packet.proofs.error.PacketDecodeError.version.Reads as refused_version_reads
 use Rattle.packet.specs.contracts.header.LongHeaderType.from_byte as from_byte
 use Rattle.packet.proofs.header.LongHeaderType.from_byte.Reads as from_byte_reads
 use Rattle.packet.specs.contracts.header.LongHeaderType.bits as bits
@@ -34,6 +46,25 @@ use Rattle.packet.proofs.partial.PartialDecode.token.Reads as token_reads
 use Rattle.packet.specs.contracts.walk.step as step
 use Rattle.packet.proofs.walk.step.Reads as step_reads
 
+refusal_once : Once refusal.ended refusal_reads.Post (λ κs x s. x)
+unfolding Once
+refusal_once κs a x y s t p q =
+    let e = p ∙ sym q in
+    let n : ◌≡◌ {A = ℕ} (number_of x) (number_of y) = cc in
+    sym (refusal_back x) ∙ ap refusal_of n ∙ refusal_back y
+
+refused_dst_once : Once refused_dst.ended refused_dst_reads.Post (λ κs x s. x)
+unfolding Once
+refused_dst_once κs a x y s t p q = p ∙ sym q
+
+refused_src_once : Once refused_src.ended refused_src_reads.Post (λ κs x s. x)
+unfolding Once
+refused_src_once κs a x y s t p q = p ∙ sym q
+
+refused_version_once : Once refused_version.ended refused_version_reads.Post (λ κs x s. x)
+unfolding Once
+refused_version_once κs a x y s t p q = p ∙ sym q
+
 from_byte_once : Once from_byte.ended from_byte_reads.Post (λ κs x s. x)
 unfolding Once
 from_byte_once κs a x y s t p q = kind_one x y _ p q
@@ -48,7 +79,7 @@ dst_cid_once κs a x y s t p q = p ∙ sym q
 
 payload_len_once : Once payload_len.ended payload_len_reads.Post (λ κs x s. x)
 unfolding Once
-payload_len_once κs a x y s t p q = len_one x y _ p q
+payload_len_once κs a x y s t p q = option_one x y _ p q
 
 space_once : Once space.ended space_reads.Post (λ κs x s. x)
 unfolding Once
@@ -68,11 +99,11 @@ has_long_header_once κs a x y s t p q = p ∙ sym q
 
 decode_once : Once decode.ended decode_reads.Post (λ κs x s. x)
 unfolding Once
-decode_once κs a x y s t p q = decoded_one x y _ p q
+decode_once κs a x y s t p q = outcome_one x y _ (header_named _ _ _ _) p q
 
 split_once : Once split.ended split_reads.Post (λ κs x s. x)
 unfolding Once
-split_once κs a x y s t p q = split_one x y _ p q
+split_once κs a x y s t p q = split_one x y _ (split_named _ _ _ _) p q
 
 len_once : Once len.ended len_reads.Post (λ κs x s. x)
 unfolding Once
@@ -92,4 +123,4 @@ token_once κs a x y s t p q = one_part _ x y _ _ p q
 
 step_once : Once step.ended step_reads.Post (λ κs x s. x)
 unfolding Once
-step_once κs a x y s t p q = step_one x y _ p q
+step_once κs a x y s t p q = step_one x y _ (step_named _ _ _ _ _) p q

@@ -1,75 +1,76 @@
--- A header is refused 4 only where its version is not in the list, whatever the type bits mean.
+-- A header is refused 4 only where its version is not in the list, and not 0, whatever the type bits mean.
 use mathlib.Core.Path.{◌≡◌}
-use Rattle.std.specs.Prelude.{ℕ, ◌+◌, ◌*◌, ◌/◌, ◌%◌, List, Bool, false, eqb, ltb, if◌then◌else◌}
+use mathlib.Core.Option.{Option, none, some}
+use Rattle.std.specs.Prelude.{ℕ, List, Bool, false, drop, length, eqb, leb, if◌then◌else◌}
 use native.Mathlib.Omega.{arith}
-use Rattle.coding.specs.Words.{no, and_then}
-use Rattle.coding.specs.Reading.{fixed_at, take_at}
-use Rattle.coding.specs.Varint.{var_at}
+use Rattle.coding.specs.Words.{Answer, no, ok}
+use Rattle.coding.specs.Reading.{take_at}
 use Rattle.coding.proofs.Rules.{if_all, then_all}
-use Rattle.shared.specs.FirstByte.{long_header_form, spin_bit}
-use Rattle.shared.specs.Cid.{long_cid_at}
-use Rattle.shared.specs.declared.cid.ConnectionId.{ConnectionId}
-use Rattle.packet.specs.TypeBits.{PacketType}
-use Rattle.packet.specs.TypeBits as type
-use Rattle.packet.specs.Header.{Header, negotiate, Outcome, refused_header, listed, outside, unfixed, headed, initial_at, length_at, tail_at, body_at, long_at, short_at, first_at, header_by}
+use Rattle.packet.specs.TypeBits.{PacketType, type_of}
+use Rattle.packet.specs.Header.{Header, Outcome, refused_header, outside, listed, headed, header_by, header_at, length_in}
+use Rattle.packet.specs.Split.{Split, cut_at, no_packet, split_by, split_on, split_with, split_at}
+use Rattle.packet.specs.Walk.{PacketStep, at_end, step_on, stop_at, packet_step_at}
+use Rattle.packet.proofs.Ways.{Ways, header_all}
 
 module _ (versions : List ℕ) where
   abbrev Four : Outcome → Type 0
-  Four o = o.said ≡ no 4 → listed versions o.version ≡ false
+  Four o = o.said ≡ no 4 → (listed versions o.version ≡ false) × (o.version ≡ 0 → ⊥)
 
-  refused_four : (k : ℕ) → (k ≡ 4 → ⊥) → Four (refused_header k)
-  unfolding refused_header
-  refused_four k other e = let i : k ≡ 4 = cc in absurd (other i)
+  four_ways : (s : List ℕ) → Ways s versions 1 Four
+  unfolding refused_header headed
+  four_ways s =
+      record {
+        refuses = λ k l other e. let i : k ≡ 4 = cc in absurd (other i);
+        unlisted = λ dst src v c z e. (c, z);
+        makes = λ dst src v h end w e. let z : ◌≡◌ {A = ℕ} 0 1 = cc in absurd (omega arith);
+      }
 
-  headed_four : (dst src : ConnectionId) (v : ℕ) (h : Header) (end : ℕ) → Four (headed dst src v h end)
-  unfolding headed
-  headed_four dst src v h end e = let z : ◌≡◌ {A = ℕ} 0 1 = cc in absurd (omega arith)
+  module _ (types : ℕ → ℕ → PacketType) (s : List ℕ) (local : ℕ) (grease : Bool) (e : (header_by types s local versions grease).said ≡ no 4) where
+    four : (listed versions (header_by types s local versions grease).version ≡ false) × ((header_by types s local versions grease).version ≡ 0 → ⊥)
+    four = header_all s versions Four types (four_ways s) local grease e
 
-  module _ (s : List ℕ) (dst src : ConnectionId) (v at : ℕ) where
-    length_four : (kind : ℕ → Header) → Four (length_at kind (headed dst src v) s at)
-    unfolding length_at
-    length_four kind = then_all Four (var_at s at) _ _ (λ e. refused_four 1 (λ z. omega (arith, z))) (λ len end e. headed_four dst src v (kind len) end)
+    pub four_unlisted : listed versions (header_by types s local versions grease).version ≡ false
+    four_unlisted = four.0
 
-    tail_four : (t : PacketType) → Four (tail_at t (headed dst src v) s at)
-    unfolding tail_at initial_at
-    tail_four type.initial =
-        then_all Four (var_at s at) _ _ (λ e. refused_four 1 (λ z. omega (arith, z))) (λ n start e.
-        then_all Four (take_at n s start) _ _ (λ f. refused_four 5 (λ z. omega (arith, z))) (λ token next f.
-        then_all Four (var_at s next) _ _ (λ g. refused_four 1 (λ z. omega (arith, z))) (λ len end g. headed_four dst src v _ end)))
-    tail_four type.zero_rtt = length_four _
-    tail_four type.handshake = length_four _
-    tail_four type.retry = headed_four dst src v _ at
+    pub four_named : (header_by types s local versions grease).version ≡ 0 → ⊥
+    four_named = four.1
 
-  module _ (types : ℕ → ℕ → PacketType) (s : List ℕ) where
-    body_four : (steer rest v : ℕ) (dst src : ConnectionId) (at : ℕ) → Four (body_at types steer rest s versions v dst src at)
-    unfolding body_at
-    body_four steer rest v dst src at =
-        let unlisted : Outcome = record { said = no 4; dst = dst; src = src; version = v; end = 0 } in
-        let negotiation : Header = negotiate (steer % 8 * 16 + rest) in
-        let tail : Outcome = tail_at (types v (steer % 4)) (headed dst src v) s at in
-        if_all Four (eqb v 0) (headed dst src v negotiation at) (if listed versions v then tail else unlisted) (λ b. headed_four dst src v negotiation at) (λ b.
-        if_all Four (listed versions v) tail unlisted (λ c. tail_four s dst src v at (types v (steer % 4))) (λ c e. c))
+-- ---- so 4 comes with a version that is not 0, from a split and from a step too
 
-    long_four : (steer rest : ℕ) → Four (long_at types steer rest s versions)
-    unfolding long_at
-    long_four steer rest =
-        then_all Four (fixed_at 4 s 1) _ _ (λ e. refused_four 1 (λ z. omega (arith, z))) (λ v n e.
-        then_all Four (long_cid_at s n) _ _ (λ f. refused_four 3 (λ z. omega (arith, z))) (λ to m f.
-        then_all Four (long_cid_at s m) _ _ (λ g. refused_four 3 (λ z. omega (arith, z))) (λ from at g. body_four steer rest v _ _ at)))
+abbrev pub Named : Outcome → Type 0
+Named o = o.said ≡ no 4 → o.version ≡ 0 → ⊥
 
-    short_four : (steer local : ℕ) → Four (short_at steer s local)
-    unfolding short_at
-    short_four steer local =
-        then_all Four (take_at local s 1) _ _ (λ e. refused_four 6 (λ z. omega (arith, z))) (λ to at e. headed_four _ _ 0 _ at)
+refused_named : (k : ℕ) → (k ≡ 4 → ⊥) → Named (refused_header k)
+unfolding refused_header
+refused_named k other e z = let i : k ≡ 4 = cc in other i
 
-    pub four_unlisted : (local : ℕ) (grease : Bool) → Four (header_by types s local versions grease)
-    unfolding header_by first_at
-    four_unlisted local grease =
-        let by : ℕ → Outcome = λ first. first_at types first s local versions grease in
-        let read : Outcome = and_then (fixed_at 1 s 0) (refused_header 1) (λ first n. by first) in
-        if_all Four (outside s local versions) (refused_header 14) read (λ b. refused_four 14 (λ z. omega (arith, z))) (λ b.
-        then_all Four (fixed_at 1 s 0) (refused_header 1) (λ first n. by first) (λ e. refused_four 1 (λ z. omega (arith, z))) (λ first n e.
-        let brief : Outcome = short_at (first / spin_bit) s local in
-        let long : Outcome = long_at types (first / 16) (first % 16) s versions in
-        if_all Four (unfixed first grease) (refused_header 2) (if ltb first long_header_form then brief else long) (λ c. refused_four 2 (λ z. omega (arith, z))) (λ c.
-        if_all Four (ltb first long_header_form) brief long (λ d. short_four (first / spin_bit) local) (λ d. long_four (first / 16) (first % 16)))))
+module _ (s : List ℕ) (h : Outcome) (n : Named h) where
+  by_named : (m : Option ℕ) → Named (split_by m s h).header
+  unfolding split_by cut_at no_packet
+  by_named none = n
+  by_named (some k) = then_all (λ (x : Split). Named x.header) (take_at k s h.end) _ _ (λ e. refused_named 7 (λ z. omega (arith, z))) (λ payload end e. n)
+
+  on_named : (a : Answer Header) → Named (split_on a s h).header
+  unfolding split_on no_packet
+  on_named (no k) = n
+  on_named (ok x) = by_named (length_in (ok x))
+
+module _ (s : List ℕ) (local : ℕ) (versions : List ℕ) (grease : Bool) where
+  pub header_named : Named (header_at s local versions grease)
+  header_named = four_named versions type_of s local grease
+
+  pub split_named : Named (split_at s local versions grease).header
+  unfolding split_with
+  split_named = on_named s _ header_named (header_at s local versions grease).said
+
+pub step_named : (s : List ℕ) (at local : ℕ) (versions : List ℕ) (grease : Bool) → Named (packet_step_at s at local versions grease).header
+unfolding packet_step_at stop_at step_on
+step_named s at local versions grease =
+    let P : PacketStep → Type 0 = λ x. Named x.header in
+    let outside_step : PacketStep = stop_at at 14 in
+    let empty_step : PacketStep = stop_at at 1 in
+    let end_step : PacketStep = record { met = at_end; header = refused_header 1 } in
+    let met_step : PacketStep = step_on at (split_at (drop at s) local versions grease) in
+    if_all P (outside s local versions) outside_step (if eqb (length s) 0 then empty_step else if leb (length s) at then end_step else met_step) (λ b. refused_named 14 (λ z. omega (arith, z))) (λ b.
+    if_all P (eqb (length s) 0) empty_step (if leb (length s) at then end_step else met_step) (λ c. refused_named 1 (λ z. omega (arith, z))) (λ c.
+    if_all P (leb (length s) at) end_step met_step (λ d. refused_named 1 (λ z. omega (arith, z))) (λ d. split_named (drop at s) local versions grease)))

@@ -1,14 +1,16 @@
--- What each case of the code's answers says, in document 01's numbers and values.
-use Rattle.std.specs.Prelude.{ℕ}
+-- What each answer of the code says, in document 01's numbers and values.
+use Rattle.std.specs.Prelude.{ℕ, Result, Ok, Err, Some, None}
+use Rattle.std.specs.Prelude.{Option as Maybe}
 use Rattle.std.proofs.Math.Option.{Option, none, some}
-use Rattle.coding.specs.Words.{Answer, no, ok}
+use Rattle.coding.specs.Words.{no, ok}
 use Rattle.coding.specs.Refusals.{number_of}
-use Rattle.coding.specs.declared.Place.{Place}
 use Rattle.packet.specs.TypeBits.{PacketType}
 use Rattle.packet.specs.TypeBits as type
-use Rattle.packet.specs.Header.{Header, initial, zero_rtt, handshake, retry, short, negotiate, Outcome}
-use Rattle.packet.specs.Split.{Split}
-use Rattle.packet.specs.Walk.{Met, at_end, packet, refused_at, PacketStep}
+use Rattle.packet.specs.Header.{Header, initial, zero_rtt, handshake, retry, short, negotiate, Outcome, refused_header}
+use Rattle.packet.specs.Split.{Split, no_packet}
+use Rattle.packet.specs.Walk.{at_end, packet, refused_at, PacketStep}
+use Rattle.packet.specs.declared.error.PacketDecodeError.{PacketDecodeError}
+use Rattle.packet.specs.declared.error.PacketDecodeError.TheVariants as error
 use Rattle.packet.specs.declared.header.LongType.{LongType}
 use Rattle.packet.specs.declared.header.LongType.TheVariants as ty
 use Rattle.packet.specs.declared.header.LongHeaderType.{LongHeaderType}
@@ -16,17 +18,16 @@ use Rattle.packet.specs.declared.header.LongHeaderType.TheVariants as kind
 use Rattle.packet.specs.declared.header.ProtectedHeader.{ProtectedHeader}
 use Rattle.packet.specs.declared.header.ProtectedHeader.TheVariants as head
 use Rattle.packet.specs.declared.header.Decoded.{Decoded}
+use Rattle.packet.specs.declared.header.SpaceId.{SpaceId}
 use Rattle.packet.specs.declared.header.SpaceId.TheVariants as id
-use Rattle.packet.specs.declared.header.Space.{Space}
-use Rattle.packet.specs.declared.header.Space.TheVariants as space
-use Rattle.packet.specs.declared.header.PayloadLen.{PayloadLen}
-use Rattle.packet.specs.declared.header.PayloadLen.TheVariants as payload
 use Rattle.packet.specs.declared.partial.PartialDecode.{PartialDecode}
-use Rattle.packet.specs.declared.partial.Rest.{Rest}
-use Rattle.packet.specs.declared.partial.Rest.TheVariants as rest
-use Rattle.packet.specs.declared.walk.Found.{Found}
-use Rattle.packet.specs.declared.walk.Found.TheVariants as found
 use Rattle.packet.specs.declared.walk.Stepped.{Stepped}
+use Rattle.packet.specs.declared.walk.StepError.{StepError}
+
+-- what may be absent, as the definitions have it
+unfoldable pub option_of : {A : Type 0} → Maybe A → Option A
+option_of (Some a) = some a
+option_of None = none
 
 -- the header of a type with a Length and no token
 unfoldable pub long_of : LongType → ℕ → Header
@@ -39,38 +40,45 @@ long_type_of kind.Retry = type.retry
 long_type_of (kind.Standard ty.Handshake) = type.handshake
 long_type_of (kind.Standard ty.ZeroRtt) = type.zero_rtt
 
-unfoldable pub header_of : ProtectedHeader → Answer Header
-header_of (head.Initial token len) = ok (initial token len)
-header_of (head.Long ty len) = ok (long_of ty len)
-header_of head.Retry = ok retry
-header_of (head.Short spin) = ok (short spin)
-header_of (head.VersionNegotiate random) = ok (negotiate random)
-header_of (head.Refused why) = no (number_of why)
+unfoldable pub header_of : ProtectedHeader → Header
+header_of (head.Initial token len) = initial token len
+header_of (head.Long ty len) = long_of ty len
+header_of head.Retry = retry
+header_of (head.Short spin) = short spin
+header_of (head.VersionNegotiate random) = negotiate random
 
-unfoldable pub outcome_of : Decoded → Outcome
-outcome_of d = record { said = header_of d.header; dst = d.dst_cid; src = d.src_cid; version = d.version; end = d.number_offset }
+unfoldable pub space_of : Maybe SpaceId → Option ℕ
+space_of (Some id.Initial) = some 0
+space_of (Some id.Handshake) = some 1
+space_of (Some id.Data) = some 2
+space_of None = none
 
-unfoldable pub len_of : PayloadLen → Option ℕ
-len_of (payload.Bytes n) = some n
-len_of payload.Nothing = none
+-- a header that was read, and one that was not
+unfoldable pub decoded_of : Decoded → Outcome
+decoded_of d = record { said = ok (header_of d.header); dst = d.dst_cid; src = d.src_cid; version = d.version; end = d.number_offset }
 
-unfoldable pub space_of : Space → Option ℕ
-space_of (space.In id.Initial) = some 0
-space_of (space.In id.Handshake) = some 1
-space_of (space.In id.Data) = some 2
-space_of space.Nothing = none
+unfoldable pub error_of : PacketDecodeError → Outcome
+error_of (error.UnsupportedVersion dst src version) = record { said = no 4; dst = dst; src = src; version = version; end = 0 }
+error_of (error.Refused why) = refused_header (number_of why)
 
-unfoldable pub rest_of : Rest → Option Place
-rest_of (rest.At p) = some p
-rest_of rest.Nothing = none
+unfoldable pub outcome_of : Result Decoded PacketDecodeError → Outcome
+outcome_of (Ok d) = decoded_of d
+outcome_of (Err e) = error_of e
 
-unfoldable pub split_of : PartialDecode → Split
-split_of d = record { header = outcome_of d.plain_header; packet = d.packet; rest = rest_of d.rest }
+-- the same of what stands past the connection ids, with these beside it
+unfoldable pub tail_of : (Header → ℕ → Outcome) → Result (ProtectedHeader × ℕ) PacketDecodeError → Outcome
+tail_of made (Ok (h, end)) = made (header_of h) end
+tail_of made (Err e) = error_of e
 
-unfoldable pub met_of : Found → Met
-met_of found.End = at_end
-met_of (found.Packet p) = packet p.start p.len
-met_of (found.Refused start) = refused_at start
+unfoldable pub partial_of : PartialDecode → Split
+partial_of d = record { header = decoded_of d.plain_header; packet = d.packet; rest = option_of d.rest }
 
-unfoldable pub packet_step_of : Stepped → PacketStep
-packet_step_of x = record { met = met_of x.found; header = outcome_of x.plain_header }
+unfoldable pub split_of : Result PartialDecode PacketDecodeError → Split
+split_of (Ok d) = partial_of d
+split_of (Err e) = no_packet (error_of e)
+
+-- at the end stands the header of no bytes, refused 1
+unfoldable pub packet_step_of : Result (Maybe Stepped) StepError → PacketStep
+packet_step_of (Ok (Some x)) = record { met = packet x.packet.start x.packet.len; header = decoded_of x.plain_header }
+packet_step_of (Ok None) = record { met = at_end; header = refused_header 1 }
+packet_step_of (Err e) = record { met = refused_at e.start; header = error_of e.why }

@@ -1,44 +1,43 @@
 // What a header says (packet.rs, ProtectedHeader; RFC 9000, 17).
 ghost use Rattle.std.specs.Prelude.{◌≡◌, ◌/◌, ◌%◌, ◌≤◌};
+ghost use Rattle.coding.specs.Words.{ok};
 ghost use Rattle.packet.specs.TypeBits.{type_of, bits_of};
 ghost use Rattle.packet.specs.Header.{length_in, space_in, is_kind, is_long};
-ghost use Rattle.packet.specs.Said.{long_type_of, header_of, len_of, space_of};
+ghost use Rattle.packet.specs.Said.{long_type_of, header_of, option_of, space_of};
 
-use coding::{Place, Refusal};
+use coding::Place;
 use shared::ConnectionId;
 
 // The version of RFC 9369, whose long headers have other type bits.
 const VERSION_2: u32 = 0x6b3343cf;
 
 // Long packet types with uniform header structure.
-#[derive(Clone, Copy)]
+#[derive(Clone, Copy, PartialEq, Eq)]
 pub enum LongType {
     Handshake,
     ZeroRtt,
 }
 
 // Long packet type including non-uniform cases.
-#[derive(Clone, Copy)]
+#[derive(Clone, Copy, PartialEq, Eq)]
 pub enum LongHeaderType {
     Initial,
     Retry,
     Standard(LongType),
 }
 
-// A packet's header without its connection ids, or a refusal.
-#[derive(Clone, Copy)]
+// A packet's header without its connection ids.
+#[derive(Clone, Copy, PartialEq, Eq)]
 pub enum ProtectedHeader {
     Initial { token: Place, len: u64 },
     Long { ty: LongType, len: u64 },
     Retry,
     Short { spin: bool },
     VersionNegotiate { random: u8 },
-    Refused(Refusal),
 }
 
 // A header that was read. The number offset is the place past the header: the packet number's, where there is one.
-// A refusal has empty connection ids and zeros, but that of a version, which has both connection ids and the version.
-#[derive(Clone, Copy)]
+#[derive(Clone, Copy, PartialEq, Eq)]
 pub struct Decoded {
     pub header: ProtectedHeader,
     pub dst_cid: ConnectionId,
@@ -48,25 +47,11 @@ pub struct Decoded {
 }
 
 // The packet number spaces.
-#[derive(Clone, Copy)]
+#[derive(Clone, Copy, PartialEq, Eq)]
 pub enum SpaceId {
     Initial,
     Handshake,
     Data,
-}
-
-// A packet's space, where it has a number.
-#[derive(Clone, Copy)]
-pub enum Space {
-    In(SpaceId),
-    Nothing,
-}
-
-// A packet's Length, where it has one.
-#[derive(Clone, Copy)]
-pub enum PayloadLen {
-    Bytes(u64),
-    Nothing,
 }
 
 impl LongHeaderType {
@@ -74,19 +59,10 @@ impl LongHeaderType {
     pub fn from_byte(b: u8, version: u32) -> LongHeaderType
         ensures { long_type_of result ≡ type_of version (b / 16 % 4) }
     {
-        let bits = b / 16 % 4;
-        if version == VERSION_2 {
-            return match bits {
-                0 => LongHeaderType::Retry,
-                1 => LongHeaderType::Initial,
-                2 => LongHeaderType::Standard(LongType::ZeroRtt),
-                _ => LongHeaderType::Standard(LongType::Handshake),
-            };
-        }
-        match bits {
-            0 => LongHeaderType::Initial,
-            1 => LongHeaderType::Standard(LongType::ZeroRtt),
-            2 => LongHeaderType::Standard(LongType::Handshake),
+        match (version == VERSION_2, b / 16 % 4) {
+            (false, 0) | (true, 1) => LongHeaderType::Initial,
+            (false, 1) | (true, 2) => LongHeaderType::Standard(LongType::ZeroRtt),
+            (false, 2) | (true, 3) => LongHeaderType::Standard(LongType::Handshake),
             _ => LongHeaderType::Retry,
         }
     }
@@ -95,23 +71,11 @@ impl LongHeaderType {
     pub fn bits(self, version: u32) -> u8
         ensures { (result ≡ bits_of version (long_type_of self)) × (result ≤ 3) }
     {
-        if version == VERSION_2 {
-            return match self {
-                LongHeaderType::Retry => 0,
-                LongHeaderType::Initial => 1,
-                LongHeaderType::Standard(ty) => match ty {
-                    LongType::ZeroRtt => 2,
-                    LongType::Handshake => 3,
-                },
-            };
-        }
-        match self {
-            LongHeaderType::Initial => 0,
-            LongHeaderType::Standard(ty) => match ty {
-                LongType::ZeroRtt => 1,
-                LongType::Handshake => 2,
-            },
-            LongHeaderType::Retry => 3,
+        match (version == VERSION_2, self) {
+            (false, LongHeaderType::Initial) | (true, LongHeaderType::Retry) => 0,
+            (false, LongHeaderType::Standard(LongType::ZeroRtt)) | (true, LongHeaderType::Initial) => 1,
+            (false, LongHeaderType::Standard(LongType::Handshake)) | (true, LongHeaderType::Standard(LongType::ZeroRtt)) => 2,
+            (false, LongHeaderType::Retry) | (true, LongHeaderType::Standard(LongType::Handshake)) => 3,
         }
     }
 }
@@ -124,80 +88,43 @@ impl Decoded {
         self.dst_cid
     }
 
-    pub fn payload_len(self) -> PayloadLen
-        ensures { len_of result ≡ length_in (header_of self.header) }
+    // The Length of a packet that has one.
+    pub fn payload_len(self) -> Option<u64>
+        ensures { option_of result ≡ length_in (ok (header_of self.header)) }
     {
-        let header = self.header;
-        match header {
-            ProtectedHeader::Initial { token: _, len } => PayloadLen::Bytes(len),
-            ProtectedHeader::Long { ty: _, len } => PayloadLen::Bytes(len),
-            ProtectedHeader::Retry => PayloadLen::Nothing,
-            ProtectedHeader::Short { spin: _ } => PayloadLen::Nothing,
-            ProtectedHeader::VersionNegotiate { random: _ } => PayloadLen::Nothing,
-            ProtectedHeader::Refused(_) => PayloadLen::Nothing,
+        match self.header {
+            ProtectedHeader::Initial { len, .. } | ProtectedHeader::Long { len, .. } => Some(len),
+            _ => None,
         }
     }
 
-    pub fn space(self) -> Space
-        ensures { space_of result ≡ space_in (header_of self.header) }
+    // The space of a packet that has a number.
+    pub fn space(self) -> Option<SpaceId>
+        ensures { space_of result ≡ space_in (ok (header_of self.header)) }
     {
-        let header = self.header;
-        match header {
-            ProtectedHeader::Initial { token: _, len: _ } => Space::In(SpaceId::Initial),
-            ProtectedHeader::Long { ty, len: _ } => match ty {
-                LongType::Handshake => Space::In(SpaceId::Handshake),
-                LongType::ZeroRtt => Space::In(SpaceId::Data),
-            },
-            ProtectedHeader::Retry => Space::Nothing,
-            ProtectedHeader::Short { spin: _ } => Space::In(SpaceId::Data),
-            ProtectedHeader::VersionNegotiate { random: _ } => Space::Nothing,
-            ProtectedHeader::Refused(_) => Space::Nothing,
+        match self.header {
+            ProtectedHeader::Initial { .. } => Some(SpaceId::Initial),
+            ProtectedHeader::Long { ty: LongType::Handshake, .. } => Some(SpaceId::Handshake),
+            ProtectedHeader::Long { ty: LongType::ZeroRtt, .. } | ProtectedHeader::Short { .. } => Some(SpaceId::Data),
+            _ => None,
         }
     }
 
     pub fn is_initial(self) -> bool
-        ensures { result ≡ is_kind 0 (header_of self.header) }
+        ensures { result ≡ is_kind 0 (ok (header_of self.header)) }
     {
-        let header = self.header;
-        match header {
-            ProtectedHeader::Initial { token: _, len: _ } => true,
-            ProtectedHeader::Long { ty: _, len: _ } => false,
-            ProtectedHeader::Retry => false,
-            ProtectedHeader::Short { spin: _ } => false,
-            ProtectedHeader::VersionNegotiate { random: _ } => false,
-            ProtectedHeader::Refused(_) => false,
-        }
+        matches!(self.header, ProtectedHeader::Initial { .. })
     }
 
     pub fn is_0rtt(self) -> bool
-        ensures { result ≡ is_kind 1 (header_of self.header) }
+        ensures { result ≡ is_kind 1 (ok (header_of self.header)) }
     {
-        let header = self.header;
-        match header {
-            ProtectedHeader::Initial { token: _, len: _ } => false,
-            ProtectedHeader::Long { ty, len: _ } => match ty {
-                LongType::Handshake => false,
-                LongType::ZeroRtt => true,
-            },
-            ProtectedHeader::Retry => false,
-            ProtectedHeader::Short { spin: _ } => false,
-            ProtectedHeader::VersionNegotiate { random: _ } => false,
-            ProtectedHeader::Refused(_) => false,
-        }
+        matches!(self.header, ProtectedHeader::Long { ty: LongType::ZeroRtt, .. })
     }
 
-    // A refused header is not taken for a long one.
     pub fn has_long_header(self) -> bool
-        ensures { result ≡ is_long (header_of self.header) }
+        ensures { result ≡ is_long (ok (header_of self.header)) }
     {
-        let header = self.header;
-        match header {
-            ProtectedHeader::Initial { token: _, len: _ } => true,
-            ProtectedHeader::Long { ty: _, len: _ } => true,
-            ProtectedHeader::Retry => true,
-            ProtectedHeader::Short { spin: _ } => false,
-            ProtectedHeader::VersionNegotiate { random: _ } => true,
-            ProtectedHeader::Refused(_) => false,
-        }
+        !matches!(self.header, ProtectedHeader::Short { .. })
     }
 }

@@ -1,108 +1,73 @@
 // The first packet of a datagram, and the rest (packet.rs, PartialDecode::new; RFC 9000, 12.2).
 ghost use Rattle.std.specs.Prelude.{◌≡◌};
-ghost use Rattle.std.proofs.Math.Option.{some};
+ghost use Rattle.coding.specs.Words.{ok};
 ghost use Rattle.coding.specs.Places.{Part, start_of, part_of};
-ghost use Rattle.packet.specs.Split.{rest_at, cut_at, no_packet, split_by, split_at, token_in, rest_in};
-ghost use Rattle.packet.specs.Said.{header_of, outcome_of, rest_of, split_of};
+ghost use Rattle.packet.specs.Split.{rest_at, cut_at, split_at, token_in, rest_in};
+ghost use Rattle.packet.specs.Said.{header_of, decoded_of, option_of, partial_of, split_of};
 
-use crate::{Decoded, ProtectedHeader};
-use coding::{Place, PlaceRead, Refusal};
+use crate::{Decoded, PacketDecodeError, ProtectedHeader};
+use coding::{Place, Refusal};
 
-// What follows the packet, if it has a byte.
-#[derive(Clone, Copy)]
-pub enum Rest {
-    At(Place),
-    Nothing,
-}
-
-// A packet with its header, both as far as they can be read without keys. A refused one has no bytes, and no rest.
-#[derive(Clone, Copy)]
+// A packet with its header, both as far as they can be read without keys, and what follows it, if that has a byte.
+#[derive(Clone, Copy, PartialEq, Eq)]
 pub struct PartialDecode {
     pub plain_header: Decoded,
     pub packet: Place,
-    pub rest: Rest,
+    pub rest: Option<Place>,
 }
 
-fn rest_at(s: &[u8], n: usize) -> Rest
-    ensures { rest_of result ≡ rest_at s.now n }
+// A part of no bytes.
+const NOWHERE: Place = Place { start: 0, len: 0 };
+
+fn rest_at(s: &[u8], n: usize) -> Option<Place>
+    ensures { option_of result ≡ rest_at s.now n }
 {
-    if n < s.len() {
-        return Rest::At(Place {
-            start: n,
-            len: s.len() - n,
-        });
+    if s.len() <= n {
+        return None;
     }
-    Rest::Nothing
+    Some(Place {
+        start: n,
+        len: s.len() - n,
+    })
 }
 
 // A packet of n bytes.
-fn cut_at(plain: Decoded, s: &[u8], n: usize) -> PartialDecode
-    ensures { split_of result ≡ cut_at (outcome_of plain) s.now n }
+fn cut_at(plain_header: Decoded, s: &[u8], n: usize) -> PartialDecode
+    ensures { partial_of result ≡ cut_at (decoded_of plain_header) s.now n }
 {
     PartialDecode {
-        plain_header: plain,
+        plain_header,
         packet: Place { start: 0, len: n },
         rest: rest_at(s, n),
     }
 }
 
-fn no_packet(plain: Decoded) -> PartialDecode
-    ensures { split_of result ≡ no_packet (outcome_of plain) }
-{
-    PartialDecode {
-        plain_header: plain,
-        packet: Place { start: 0, len: 0 },
-        rest: Rest::Nothing,
-    }
-}
-
-// A packet that ends its Length past its header.
-fn by_length(plain: Decoded, s: &[u8], len: u64) -> PartialDecode
-    ensures { split_of result ≡ split_by (some len) s.now (outcome_of plain) }
-{
-    let PlaceRead::At(_, end) = coding::take(s, plain.number_offset, len) else {
-        return no_packet(crate::protected::refused(Refusal::Length));
-    };
-    cut_at(plain, s, end)
-}
-
-// Begin decoding a packet, and where the datagram goes on.
-pub fn split(s: &[u8], local: usize, versions: &[u32], grease: bool) -> PartialDecode
+// Begin decoding a packet, and where the datagram goes on. With a Length it ends so many bytes past its header.
+pub fn split(
+    s: &[u8],
+    local: usize,
+    versions: &[u32],
+    grease: bool,
+) -> Result<PartialDecode, PacketDecodeError>
     ensures { split_of result ≡ split_at s.now local versions.now grease }
 {
-    let plain = crate::decode(s, local, versions, grease);
-    let header = plain.header;
-    match header {
-        ProtectedHeader::Initial { token: _, len } => by_length(plain, s, len),
-        ProtectedHeader::Long { ty: _, len } => by_length(plain, s, len),
-        ProtectedHeader::Retry => cut_at(plain, s, s.len()),
-        ProtectedHeader::Short { spin: _ } => cut_at(plain, s, s.len()),
-        ProtectedHeader::VersionNegotiate { random: _ } => cut_at(plain, s, s.len()),
-        ProtectedHeader::Refused(_) => no_packet(plain),
-    }
-}
-
-// The rest's place, or an empty one.
-fn rest_place(rest: Rest) -> Place
-    ensures { result ≡ rest_in (rest_of rest) }
-{
-    match rest {
-        Rest::At(place) => place,
-        Rest::Nothing => Place { start: 0, len: 0 },
-    }
+    let plain = crate::decode(s, local, versions, grease)?;
+    let Some(len) = plain.payload_len() else {
+        return Ok(cut_at(plain, s, s.len()));
+    };
+    let Ok((_, end)) = coding::take(s, plain.number_offset, len) else {
+        return Err(PacketDecodeError::Refused(Refusal::Length));
+    };
+    Ok(cut_at(plain, s, end))
 }
 
 // The token's place, or an empty one.
 fn token_place(header: ProtectedHeader) -> Place
-    ensures { result ≡ token_in (header_of header) }
+    ensures { result ≡ token_in (ok (header_of header)) }
 {
     match header {
-        ProtectedHeader::Initial { token, len: _ } => token,
-        ProtectedHeader::Long { ty: _, len: _ } => Place { start: 0, len: 0 },
-        ProtectedHeader::Retry => Place { start: 0, len: 0 },
-        ProtectedHeader::Short { spin: _ } => Place { start: 0, len: 0 },
-        ProtectedHeader::VersionNegotiate { random: _ } => Place { start: 0, len: 0 },
-        ProtectedHeader::Refused(_) => Place { start: 0, len: 0 },
+        ProtectedHeader::Initial { token, .. } => token,
+        _ => NOWHERE,
     }
 }
 
@@ -123,18 +88,15 @@ impl PartialDecode {
 
     // What follows it, as a part of the datagram; empty where there is none.
     pub fn rest(self, s: &[u8]) -> &[u8]
-        ensures { Part s.entry result (start_of s.now (rest_in (rest_of self.rest))) (part_of s.now (rest_in (rest_of self.rest))) }
+        ensures { Part s.entry result (start_of s.now (rest_in (option_of self.rest))) (part_of s.now (rest_in (option_of self.rest))) }
     {
-        let rest = self.rest;
-        coding::part(s, rest_place(rest))
+        coding::part(s, self.rest.unwrap_or(NOWHERE))
     }
 
     // An Initial's token, as a part of its packet; empty where there is none.
     pub fn token(self, s: &[u8]) -> &[u8]
-        ensures { Part s.entry result (start_of s.now (token_in (header_of self.plain_header.header))) (part_of s.now (token_in (header_of self.plain_header.header))) }
+        ensures { Part s.entry result (start_of s.now (token_in (ok (header_of self.plain_header.header)))) (part_of s.now (token_in (ok (header_of self.plain_header.header)))) }
     {
-        let plain = self.plain_header;
-        let header = plain.header;
-        coding::part(s, token_place(header))
+        coding::part(s, token_place(self.plain_header.header))
     }
 }

@@ -1,60 +1,25 @@
-use mathlib.Core.Path.{refl, ap, ◌∙◌}
-use Rattle.packet.specs.Header.{Outcome, length_in}
-use Rattle.packet.specs.Said.{header_of, outcome_of}
-use Rattle.packet.specs.Split.{split_on, split_with}
-use Rattle.packet.proofs.Cases.{split_no, split_all, split_some, long_length}
+use Rattle.std.proofs.lemmas.Result.{err_from_is_err_and}
+use Rattle.coding.specs.Words.{and_then}
+use Rattle.coding.specs.Said.{read_of}
+use Rattle.packet.specs.Split.{split_by, split_on, split_with}
+use Rattle.packet.specs.Said.{option_of, decoded_of, error_of, outcome_of, split_of}
+use Rattle.packet.proofs.Cases.{error_says}
 use Rattle.packet.proofs.partial.split.Goals as goal
 
-pub returns-in-Initial : goal.returns-in-Initial
-unfolding split_with header_of outcome_of length_in
-returns-in-Initial c =
-    let a = c.args in
-    let d = c.decode-plain in
-    c.by_length.ensures
-    ∙ split_some a.s.now (outcome_of d.result) _ _ (ap header_of c.in-Initial.is) _ refl
-    ∙ ap (λ (h : Outcome). split_on h.said a.s.now h) d.ensures
+pub returns-in_err-plain : goal.returns-in_err-plain
+unfolding split_with split_on outcome_of split_of
+returns-in_err-plain c =
+    let p = err_from_is_err_and c.from_residual.result c.from_residual.ensures.1 in
+    rw (p.1, p.2, ← c.in_err-plain.ensures, (error_says c.in_err-plain.field-0.0).1)
 
-pub returns-in-Long : goal.returns-in-Long
-unfolding split_with header_of outcome_of length_in
-returns-in-Long c =
-    let a = c.args in
-    let d = c.decode-plain in
-    c.by_length-in-Long.ensures
-    ∙ split_some a.s.now (outcome_of d.result) _ _ (ap header_of c.in-Long.is) _ (long_length _ _)
-    ∙ ap (λ (h : Outcome). split_on h.said a.s.now h) d.ensures
+pub returns-in_default : goal.returns-in_default
+unfolding split_with split_on split_by outcome_of decoded_of split_of option_of
+returns-in_default c = rw (← c.in_ok-plain.ensures, ← c.in_default.ensures) c.cut_at.ensures
 
-pub returns-in-Retry : goal.returns-in-Retry
-unfolding split_with header_of outcome_of length_in
-returns-in-Retry c =
-    let a = c.args in
-    let d = c.decode-plain in
-    c.cut_at.ensures
-    ∙ split_all a.s.now (outcome_of d.result) _ _ (ap header_of c.in-Retry.is) refl
-    ∙ ap (λ (h : Outcome). split_on h.said a.s.now h) d.ensures
+pub returns-in_default-take : goal.returns-in_default-take
+unfolding split_with split_on split_by and_then read_of outcome_of decoded_of error_of split_of option_of
+returns-in_default-take c = rw (← c.in_ok-plain.ensures, ← c.in-Some.ensures, ← c.in_default-take.ensures)
 
-pub returns-in-Short : goal.returns-in-Short
-unfolding split_with header_of outcome_of length_in
-returns-in-Short c =
-    let a = c.args in
-    let d = c.decode-plain in
-    c.cut_at-in-Short.ensures
-    ∙ split_all a.s.now (outcome_of d.result) _ _ (ap header_of c.in-Short.is) refl
-    ∙ ap (λ (h : Outcome). split_on h.said a.s.now h) d.ensures
-
-pub returns-in-VersionNegotiate : goal.returns-in-VersionNegotiate
-unfolding split_with header_of outcome_of length_in
-returns-in-VersionNegotiate c =
-    let a = c.args in
-    let d = c.decode-plain in
-    c.cut_at-in-VersionNegotiate.ensures
-    ∙ split_all a.s.now (outcome_of d.result) _ _ (ap header_of c.in-VersionNegotiate.is) refl
-    ∙ ap (λ (h : Outcome). split_on h.said a.s.now h) d.ensures
-
-pub returns-in-Refused : goal.returns-in-Refused
-unfolding split_with header_of outcome_of length_in
-returns-in-Refused c =
-    let a = c.args in
-    let d = c.decode-plain in
-    c.no_packet.ensures
-    ∙ split_no a.s.now (outcome_of d.result) _ _ (ap header_of c.in-Refused.is)
-    ∙ ap (λ (h : Outcome). split_on h.said a.s.now h) d.ensures
+pub returns : goal.returns
+unfolding split_with split_on split_by and_then read_of outcome_of decoded_of split_of option_of
+returns c = rw (← c.in_ok-plain.ensures, ← c.in-Some.ensures, ← c.in-Ok.ensures) c.cut_at-2.ensures

@@ -1,20 +1,26 @@
-use Rattle.coding.proofs.Rules.{steps}
-use Rattle.packet.specs.Header.{initial_at, headed}
-use Rattle.packet.specs.Said.{header_of, outcome_of}
+use Rattle.std.proofs.lemmas.Result.{err_from_is_err_and}
+use Rattle.coding.specs.Words.{and_then}
+use Rattle.coding.specs.Said.{read_of, var_of}
+use Rattle.packet.specs.Header.{initial_at}
+use Rattle.packet.specs.Said.{header_of, error_of, tail_of}
 use Rattle.packet.proofs.protected.initial_tail.Goals as goal
 
+pub returns-in_err-token_len : goal.returns-in_err-token_len
+unfolding initial_at and_then var_of tail_of error_of
+returns-in_err-token_len c made =
+    let p = err_from_is_err_and c.from_residual.result c.from_residual.ensures.1 in
+    rw (p.1, p.2, ← c.in_err-token_len.ensures)
+
 pub returns-in_default : goal.returns-in_default
-unfolding initial_at
-returns-in_default c = search steps depth 40 fits 4000
+unfolding initial_at and_then var_of read_of tail_of error_of
+returns-in_default c made = rw (← c.in_ok-token_len.ensures, ← c.in_default.ensures)
 
-pub returns-in_default-take : goal.returns-in_default-take
-unfolding initial_at
-returns-in_default-take c = search steps depth 40 fits 4000
-
-pub returns-in_default-get_var : goal.returns-in_default-get_var
-unfolding initial_at
-returns-in_default-get_var c = search steps depth 40 fits 4000
+pub returns-in_err-len : goal.returns-in_err-len
+unfolding initial_at and_then var_of read_of tail_of error_of
+returns-in_err-len c made =
+    let p = err_from_is_err_and c.from_residual-in_err-len.result c.from_residual-in_err-len.ensures.1 in
+    rw (p.1, p.2, ← c.in_ok-token_len.ensures, ← c.in-Ok.ensures, ← c.in_err-len.ensures)
 
 pub returns : goal.returns
-unfolding initial_at headed outcome_of header_of
-returns c = search steps depth 40 fits 4000
+unfolding initial_at and_then var_of read_of tail_of header_of
+returns c made = rw (← c.in_ok-token_len.ensures, ← c.in-Ok.ensures, ← c.in_ok-len.ensures)
