@@ -1,7 +1,6 @@
 -- What a proof cites of the definitions and the library.
 use mathlib.Core.Path.{◌≡◌, refl}
 use mathlib.Core.List.{List, [], ◌∷◌}
-use mathlib.Core.Bool.{◌||◌}
 use Prim.Native.Nat.{ℕ, ◌+◌, ◌-◌, ◌*◌, ◌/◌, ◌%◌, ◌≤◌}
 use native.Mathlib.Omega.{arith}
 use lib.Dec.{eqb}
@@ -10,7 +9,7 @@ use lib.Seq.{take_all}
 use Rattle.std.specs.List.{list_any}
 use Rattle.coding.specs.Words.{no}
 use Rattle.coding.specs.Refusals.{number_of}
-use Rattle.packet.specs.Header.{refused_header, listed}
+use Rattle.packet.specs.Header.{listed}
 use Rattle.packet.specs.Said.{error_of}
 use Rattle.packet.specs.declared.error.PacketDecodeError.{PacketDecodeError}
 use Rattle.packet.specs.declared.error.PacketDecodeError.TheVariants as error
@@ -31,6 +30,5 @@ any_listed v (x ∷ versions) = rw (any_listed v versions)
 
 -- an error says no
 pub error_says : (e : PacketDecodeError) → (k : ℕ) × ((error_of e).said ≡ no k)
-unfolding error_of refused_header
 error_says (error.UnsupportedVersion dst src version) = (4, refl)
 error_says (error.Refused why) = (number_of why, refl)

@@ -7,19 +7,18 @@ use lib.Dec.{eqb}
 use borrow.Author.Tests.{ne_eqb}
 use Rattle.std.specs.Prelude.{Result, Ok, Err, Some, None}
 use Rattle.std.specs.Prelude.{Option as Maybe}
-use Rattle.coding.specs.Words.{Answer, no, ok}
+use Rattle.coding.specs.Words.{no}
 use Rattle.coding.specs.Refusals.{number_of}
-use Rattle.coding.specs.declared.refusal.Refusal.{Refusal}
 use Rattle.coding.specs.declared.refusal.Refusal.TheVariants as refusal
 use Rattle.coding.proofs.Numbers.{refusal_of, refusal_back}
 use Rattle.coding.proofs.Inverse.{one_by, answered}
 use Rattle.packet.proofs.Unlisted.{Named}
 use Rattle.packet.specs.TypeBits.{PacketType}
 use Rattle.packet.specs.TypeBits as type
-use Rattle.packet.specs.Header.{Header, initial, zero_rtt, handshake, retry, short, negotiate, Outcome, refused_header}
+use Rattle.packet.specs.Header.{Header, initial, zero_rtt, handshake, retry, short, negotiate, Outcome}
 use Rattle.packet.specs.Split.{Split, no_packet}
 use Rattle.packet.specs.Walk.{Met, at_end, packet, refused_at, PacketStep}
-use Rattle.packet.specs.Said.{option_of, long_of, long_type_of, header_of, space_of, decoded_of, error_of, outcome_of, partial_of, split_of, packet_step_of}
+use Rattle.packet.specs.Said.{option_of, long_type_of, header_of, space_of, decoded_of, error_of, outcome_of, partial_of, split_of, packet_step_of}
 use Rattle.packet.specs.declared.error.PacketDecodeError.{PacketDecodeError}
 use Rattle.packet.specs.declared.error.PacketDecodeError.TheVariants as error
 use Rattle.packet.specs.declared.header.LongType.TheVariants as ty
@@ -41,7 +40,6 @@ option_back none = None
 option_back (some a) = Some a
 
 option_back_law : {A : Type 0} (o : Maybe A) → option_back (option_of o) ≡ o
-unfolding option_of
 option_back_law None = refl
 option_back_law (Some a) = refl
 
@@ -55,7 +53,6 @@ kind_back type.handshake = kind.Standard ty.Handshake
 kind_back type.zero_rtt = kind.Standard ty.ZeroRtt
 
 pub kind_one : (x y : LongHeaderType) (t : PacketType) → long_type_of x ≡ t → long_type_of y ≡ t → x ≡ y
-unfolding long_type_of
 kind_one = one_by long_type_of kind_back back
   where
     back : (k : LongHeaderType) → kind_back (long_type_of k) ≡ k
@@ -69,7 +66,6 @@ space_back none = None
 space_back (some n) = Some (cond (eqb n 0) id.Initial (cond (eqb n 1) id.Handshake id.Data))
 
 pub space_one : (x y : Maybe SpaceId) (o : Option ℕ) → space_of x ≡ o → space_of y ≡ o → x ≡ y
-unfolding space_of
 space_one = one_by space_of space_back back
   where
     back : (x : Maybe SpaceId) → space_back (space_of x) ≡ x
@@ -89,7 +85,6 @@ header_back (short spin) = head.Short spin
 header_back (negotiate random) = head.VersionNegotiate random
 
 header_back_law : (h : ProtectedHeader) → header_back (header_of h) ≡ h
-unfolding header_of long_of
 header_back_law (head.Initial token len) = refl
 header_back_law (head.Long ty.Handshake len) = refl
 header_back_law (head.Long ty.ZeroRtt len) = refl
@@ -114,7 +109,6 @@ not_four : (k : ℕ) (x y : PacketDecodeError) → (k ≡ 4 → ⊥) → cond (e
 not_four k x y h = rw (ne_eqb k 4 h)
 
 error_back_law : (e : PacketDecodeError) → Named (error_of e) → error_back (error_of e) ≡ e
-unfolding error_of refused_header
 error_back_law (error.UnsupportedVersion dst src v) n = refl
 error_back_law (error.Refused why) n = not_four (number_of why) _ _ (λ z. n (ap no z) refl) ∙ ap error.Refused (refusal_back why)
 
@@ -126,7 +120,7 @@ abbrev outcome_back : Outcome → Result Decoded PacketDecodeError
 outcome_back o = answered (λ k. Err (error_back o)) (λ h. Ok (decoded_back o)) o.said
 
 pub outcome_one : (x y : Result Decoded PacketDecodeError) (o : Outcome) → Named o → outcome_of x ≡ o → outcome_of y ≡ o → x ≡ y
-unfolding outcome_of decoded_of error_of refused_header
+unfolding outcome_of decoded_of
 outcome_one = one_where outcome_of outcome_back Named back
   where
     back : (r : Result Decoded PacketDecodeError) → Named (outcome_of r) → outcome_back (outcome_of r) ≡ r
@@ -147,7 +141,7 @@ abbrev split_back : Split → Result PartialDecode PacketDecodeError
 split_back x = answered (λ k. Err (error_back x.header)) (λ h. Ok (partial_back x)) x.header.said
 
 pub split_one : (x y : Result PartialDecode PacketDecodeError) (o : Split) → Named o.header → split_of x ≡ o → split_of y ≡ o → x ≡ y
-unfolding split_of decoded_of error_of refused_header partial_of no_packet
+unfolding split_of decoded_of partial_of no_packet
 split_one = one_where split_of split_back (λ o. Named o.header) back
   where
     back : (r : Result PartialDecode PacketDecodeError) → Named (split_of r).header → split_back (split_of r) ≡ r

@@ -28,7 +28,6 @@ use Rattle.packet.proofs.Within.{body_within}
 
 -- a refusal is no header
 refused_not : {P : Type 0} (k : ℕ) (h : Header) → (refused_header k).said ≡ ok h → P
-unfolding refused_header
 refused_not k h p = let z : ◌≡◌ {A = ℕ} 0 1 = cc in absurd (omega arith)
 
 -- y is x, where x has the header h and ends at `end` at the latest

@@ -17,7 +17,7 @@ use Rattle.coding.proofs.Laws.{take_inside}
 use Rattle.coding.proofs.Rules.{then_all}
 use Rattle.packet.specs.TypeBits.{type_of}
 use Rattle.packet.specs.Header.{Header, Outcome, refused_header, header_at, length_in}
-use Rattle.packet.specs.Split.{Split, nowhere, rest_at, cut_at, no_packet, split_by, split_on, split_with, split_at, token_in, rest_in}
+use Rattle.packet.specs.Split.{Split, nowhere, rest_at, cut_at, no_packet, split_by, split_on, split_with, split_at, rest_in}
 use Rattle.packet.specs.Inside.{HeaderInside, SplitInside, SplitsInside}
 use Rattle.packet.proofs.Within.{least, Within, header_within}
 
@@ -60,7 +60,7 @@ module _ (s : List ℕ) (o : Outcome) where
     inside n l = record { end = l; token = rw e (w.0 x e).token }
 
     by_right : (m : Option ℕ) → length_in (ok x) ≡ m → Right (split_by m s o)
-    unfolding split_by refused_header
+    unfolding split_by
     by_right none f = let i = w.0 x e in cut_right x (length s) e (omega arith) (inside (length s) i.inside) (omega arith) (λ g. refl)
     by_right (some n) f =
         let i = w.0 x e in
@@ -97,7 +97,7 @@ module _ (s : List ℕ) (n : ℕ) where
 
   -- its bytes are what follows
   rest_part : (b : Bool) → ltb n (length s) ≡ b → part_of s (rest_in (rest_at s n)) ≡ drop n s
-  unfolding part_of rest_in
+  unfolding part_of
   rest_part true e =
       let h = ltb-true _ _ e in
       rw (rest_some h, le-leb (n + (length s - n)) (length s) (omega arith)) (take_all (length s - n) (drop n s) (simp length-drop (omega arith)))
@@ -136,7 +136,6 @@ rest_follows s n l p = go (ltb n (length s)) refl
 
 -- packet and rest lie inside the datagram and follow one another; header and token lie inside the packet
 pub split_inside : SplitsInside
-unfolding token_in
 split_inside s local versions grease = go x.header.said refl
   where
     x : Split

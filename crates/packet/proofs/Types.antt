@@ -35,7 +35,6 @@ below_four P p q r s (suc (suc (suc zero))) h = s
 below_four P p q r s (suc (suc (suc (suc b)))) h = absurd (omega arith)
 
 one_table : Table type_one bits_one
-unfolding type_one bits_one
 one_table =
     record {
       back = each (λ t. type_one (bits_one t) ≡ t) refl refl refl refl;
@@ -44,7 +43,6 @@ one_table =
     }
 
 two_table : Table type_two bits_two
-unfolding type_two bits_two
 two_table =
     record {
       back = each (λ t. type_two (bits_two t) ≡ t) refl refl refl refl;
@@ -54,31 +52,25 @@ two_table =
 
 -- version 2's bits are version 1's and one more, modulo 4
 pub one_more : (t : PacketType) → bits_two t ≡ (bits_one t + 1) % 4
-unfolding bits_one bits_two
 one_more = each (λ t. bits_two t ≡ (bits_one t + 1) % 4) refl refl refl refl
 
 -- ---- by the version
 
 pub version_two_law : (bits : ℕ) → type_of version_two bits ≡ type_two bits
-unfolding type_of
 version_two_law bits = refl
 
 pub bits_two_law : (t : PacketType) → bits_of version_two t ≡ bits_two t
-unfolding bits_of
 bits_two_law t = refl
 
 module _ (version : ℕ) (other : version ≡ version_two → ⊥) where
   pub version_other : (bits : ℕ) → type_of version bits ≡ type_one bits
-  unfolding type_of
   version_other bits = rw (ne_eqb version version_two other)
 
   pub bits_other : (t : PacketType) → bits_of version t ≡ bits_one t
-  unfolding bits_of
   bits_other t = rw (ne_eqb version version_two other)
 
 -- the two maps are each other's inverse, whatever the version
 pub tables : Tables type_of bits_of
-unfolding type_of bits_of
 tables version = go (eqb version version_two)
   where
     go : (b : Bool) → Table (λ bits. if b then type_two bits else type_one bits) (λ t. if b then bits_two t else bits_one t)

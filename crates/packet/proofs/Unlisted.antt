@@ -17,7 +17,7 @@ module _ (versions : List ℕ) where
   Four o = o.said ≡ no 4 → (listed versions o.version ≡ false) × (o.version ≡ 0 → ⊥)
 
   four_ways : (s : List ℕ) → Ways s versions 1 Four
-  unfolding refused_header headed
+  unfolding headed
   four_ways s =
       record {
         refuses = λ k l other e. let i : k ≡ 4 = cc in absurd (other i);
@@ -41,7 +41,6 @@ abbrev pub Named : Outcome → Type 0
 Named o = o.said ≡ no 4 → o.version ≡ 0 → ⊥
 
 refused_named : (k : ℕ) → (k ≡ 4 → ⊥) → Named (refused_header k)
-unfolding refused_header
 refused_named k other e z = let i : k ≡ 4 = cc in other i
 
 module _ (s : List ℕ) (h : Outcome) (n : Named h) where

@@ -228,7 +228,7 @@ module _ (s : List ℕ) (local : ℕ) (versions : List ℕ) (grease : Bool) wher
 
   -- a datagram that is refused as a whole
   pub walk_refused : (k : ℕ) → header_at s local versions grease ≡ refused_header k → packets_from (length s) 0 s local versions grease ≡ stop_at 0 k ∷ []
-  unfolding split_with split_on refused_header no_packet step_on met_on stop_at
+  unfolding split_with split_on no_packet step_on met_on stop_at
   walk_refused k e =
       let f : split_at s local versions grease ≡ no_packet (refused_header k) = rw e in
       walk_no local versions grease (length s) 0 s k (rw f) ∙ rw f

@@ -63,7 +63,7 @@ module _ (s versions : List ℕ) (P : Outcome → Type 0) where
         w.makes dst src v (kind len) end (bare s at (kind len) end (small len).1 (omega arith) (omega (arith, small len)) i.1))
 
     tail_all : (t : PacketType) → at ≤ length s → P (tail_at t (headed dst src v) s at)
-    unfolding tail_at initial_at token_in
+    unfolding tail_at initial_at
     tail_all type.initial h =
         then_all P (var_at s at) _ _ (λ e. w.refuses 1 (omega arith) (λ z. omega (arith, z))) (λ n start e.
         then_all P (take_at n s start) _ _ (λ f. w.refuses 5 (omega arith) (λ z. omega (arith, z))) (λ token next f.
@@ -79,7 +79,7 @@ module _ (s versions : List ℕ) (P : Outcome → Type 0) where
   module _ (types : ℕ → ℕ → PacketType) where
     pub body_all : (steer rest v : ℕ) (dst src : ConnectionId) (at : ℕ) → 7 ≤ at → at ≤ length s → Ways s versions at P
         → P (body_at types steer rest s versions v dst src at)
-    unfolding body_at token_in
+    unfolding body_at
     body_all steer rest v dst src at past h w =
         let unlisted : Outcome = record { said = no 4; dst = dst; src = src; version = v; end = 0 } in
         let negotiation : Header = negotiate (steer % 8 * 16 + rest) in
@@ -102,7 +102,7 @@ module _ (s versions : List ℕ) (P : Outcome → Type 0) where
           body_all steer rest v (cid_on s to) (cid_on s from) at (omega arith) k.inside (later 1 at (omega arith) w))))
 
       short_all : (steer local : ℕ) → P (short_at steer s local)
-      unfolding short_at token_in
+      unfolding short_at
       short_all steer local =
           then_all P (take_at local s 1) _ _ (λ e. w.refuses 6 (omega arith) (λ z. omega (arith, z))) (λ to at e.
           let i = take_inside local s 1 to at e in

@@ -19,7 +19,7 @@ module _ (s : List ℕ) where
   no_within n k o l z e = (λ h p. let z : ◌≡◌ {A = ℕ} 0 1 = cc in absurd (omega arith), λ j p. let i : k ≡ j = cc in (omega arith, z))
 
   within_ways : (versions : List ℕ) (n : ℕ) → Ways s versions n (Within s n)
-  unfolding refused_header headed
+  unfolding headed
   within_ways versions n =
       record {
         refuses = λ k l other. no_within n k (refused_header k) l refl refl;

@@ -30,7 +30,7 @@ pub record Outcome : Type 0 where
   pub end : ℕ
 
 -- a refusal that carries nothing
-unfoldable pub refused_header : ℕ → Outcome
+abbrev pub refused_header : ℕ → Outcome
 refused_header k = record { said = no k; dst = cid_of []; src = cid_of []; version = 0; end = 0 }
 
 -- the most versions that a reader may list
@@ -115,7 +115,7 @@ header_at = header_by type_of
 -- ---- what is asked of a header
 
 -- the Length, where there is one
-unfoldable pub length_in : Answer Header → Option ℕ
+abbrev pub length_in : Answer Header → Option ℕ
 length_in (no k) = none
 length_in (ok (initial token len)) = some len
 length_in (ok (zero_rtt len)) = some len
@@ -125,7 +125,7 @@ length_in (ok (short spin)) = none
 length_in (ok (negotiate bits)) = none
 
 -- the packet number space: RFC 9000, 12.3: 0 Initial, 1 Handshake, 2 application data (0-RTT and 1-RTT)
-unfoldable pub space_in : Answer Header → Option ℕ
+abbrev pub space_in : Answer Header → Option ℕ
 space_in (no k) = none
 space_in (ok (initial token len)) = some 0
 space_in (ok (zero_rtt len)) = some 2
@@ -135,7 +135,7 @@ space_in (ok (short spin)) = some 2
 space_in (ok (negotiate bits)) = none
 
 -- the kinds by number
-unfoldable pub kind_of : Header → ℕ
+abbrev pub kind_of : Header → ℕ
 kind_of (initial token len) = 0
 kind_of (zero_rtt len) = 1
 kind_of (handshake len) = 2
@@ -144,10 +144,10 @@ kind_of (short spin) = 4
 kind_of (negotiate bits) = 5
 
 -- whether it is of a kind; whether it is a long header. A refusal is neither
-unfoldable pub is_kind : ℕ → Answer Header → Bool
+abbrev pub is_kind : ℕ → Answer Header → Bool
 is_kind k (no j) = false
 is_kind k (ok h) = eqb (kind_of h) k
 
-unfoldable pub is_long : Answer Header → Bool
+abbrev pub is_long : Answer Header → Bool
 is_long (no j) = false
 is_long (ok h) = not (eqb (kind_of h) 4)

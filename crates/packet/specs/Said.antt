@@ -25,29 +25,29 @@ use Rattle.packet.specs.declared.walk.Stepped.{Stepped}
 use Rattle.packet.specs.declared.walk.StepError.{StepError}
 
 -- what may be absent, as the definitions have it
-unfoldable pub option_of : {A : Type 0} → Maybe A → Option A
+abbrev pub option_of : {A : Type 0} → Maybe A → Option A
 option_of (Some a) = some a
 option_of None = none
 
 -- the header of a type with a Length and no token
-unfoldable pub long_of : LongType → ℕ → Header
+abbrev pub long_of : LongType → ℕ → Header
 long_of ty.Handshake = handshake
 long_of ty.ZeroRtt = zero_rtt
 
-unfoldable pub long_type_of : LongHeaderType → PacketType
+abbrev pub long_type_of : LongHeaderType → PacketType
 long_type_of kind.Initial = type.initial
 long_type_of kind.Retry = type.retry
 long_type_of (kind.Standard ty.Handshake) = type.handshake
 long_type_of (kind.Standard ty.ZeroRtt) = type.zero_rtt
 
-unfoldable pub header_of : ProtectedHeader → Header
+abbrev pub header_of : ProtectedHeader → Header
 header_of (head.Initial token len) = initial token len
 header_of (head.Long ty len) = long_of ty len
 header_of head.Retry = retry
 header_of (head.Short spin) = short spin
 header_of (head.VersionNegotiate random) = negotiate random
 
-unfoldable pub space_of : Maybe SpaceId → Option ℕ
+abbrev pub space_of : Maybe SpaceId → Option ℕ
 space_of (Some id.Initial) = some 0
 space_of (Some id.Handshake) = some 1
 space_of (Some id.Data) = some 2
@@ -57,7 +57,7 @@ space_of None = none
 unfoldable pub decoded_of : Decoded → Outcome
 decoded_of d = record { said = ok (header_of d.header); dst = d.dst_cid; src = d.src_cid; version = d.version; end = d.number_offset }
 
-unfoldable pub error_of : PacketDecodeError → Outcome
+abbrev pub error_of : PacketDecodeError → Outcome
 error_of (error.UnsupportedVersion dst src version) = record { said = no 4; dst = dst; src = src; version = version; end = 0 }
 error_of (error.Refused why) = refused_header (number_of why)
 

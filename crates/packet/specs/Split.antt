@@ -44,7 +44,7 @@ abbrev pub split_at : List ℕ → ℕ → List ℕ → Bool → Split
 split_at = split_with type_of
 
 -- the token's place; the empty one where there is no token
-unfoldable pub token_in : Answer Header → Place
+abbrev pub token_in : Answer Header → Place
 token_in (no k) = nowhere
 token_in (ok (initial token len)) = token
 token_in (ok (zero_rtt len)) = nowhere
@@ -54,6 +54,6 @@ token_in (ok (short spin)) = nowhere
 token_in (ok (negotiate bits)) = nowhere
 
 -- the rest's place; the empty one where there is no rest
-unfoldable pub rest_in : Option Place → Place
+abbrev pub rest_in : Option Place → Place
 rest_in none = nowhere
 rest_in (some p) = p

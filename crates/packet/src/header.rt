@@ -73,9 +73,12 @@ impl LongHeaderType {
     {
         match (version == VERSION_2, self) {
             (false, LongHeaderType::Initial) | (true, LongHeaderType::Retry) => 0,
-            (false, LongHeaderType::Standard(LongType::ZeroRtt)) | (true, LongHeaderType::Initial) => 1,
-            (false, LongHeaderType::Standard(LongType::Handshake)) | (true, LongHeaderType::Standard(LongType::ZeroRtt)) => 2,
-            (false, LongHeaderType::Retry) | (true, LongHeaderType::Standard(LongType::Handshake)) => 3,
+            (false, LongHeaderType::Standard(LongType::ZeroRtt))
+            | (true, LongHeaderType::Initial) => 1,
+            (false, LongHeaderType::Standard(LongType::Handshake))
+            | (true, LongHeaderType::Standard(LongType::ZeroRtt)) => 2,
+            (false, LongHeaderType::Retry)
+            | (true, LongHeaderType::Standard(LongType::Handshake)) => 3,
         }
     }
 }
@@ -104,8 +107,15 @@ impl Decoded {
     {
         match self.header {
             ProtectedHeader::Initial { .. } => Some(SpaceId::Initial),
-            ProtectedHeader::Long { ty: LongType::Handshake, .. } => Some(SpaceId::Handshake),
-            ProtectedHeader::Long { ty: LongType::ZeroRtt, .. } | ProtectedHeader::Short { .. } => Some(SpaceId::Data),
+            ProtectedHeader::Long {
+                ty: LongType::Handshake,
+                ..
+            } => Some(SpaceId::Handshake),
+            ProtectedHeader::Long {
+                ty: LongType::ZeroRtt,
+                ..
+            }
+            | ProtectedHeader::Short { .. } => Some(SpaceId::Data),
             _ => None,
         }
     }
@@ -119,7 +129,13 @@ impl Decoded {
     pub fn is_0rtt(self) -> bool
         ensures { result ≡ is_kind 1 (ok (header_of self.header)) }
     {
-        matches!(self.header, ProtectedHeader::Long { ty: LongType::ZeroRtt, .. })
+        matches!(
+            self.header,
+            ProtectedHeader::Long {
+                ty: LongType::ZeroRtt,
+                ..
+            }
+        )
     }
 
     pub fn has_long_header(self) -> bool

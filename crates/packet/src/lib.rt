@@ -1,29 +1,5 @@
 // From datagram to packets: header decode, split and walk (packet.rs).
-#![tactic(auto, unfolding(
-    crate::specs::Said::option_of,
-    crate::specs::Said::long_of,
-    crate::specs::Said::long_type_of,
-    crate::specs::Said::header_of,
-    crate::specs::Said::space_of,
-    crate::specs::Said::error_of,
-    crate::specs::TypeBits::type_of,
-    crate::specs::TypeBits::type_one,
-    crate::specs::TypeBits::type_two,
-    crate::specs::TypeBits::bits_of,
-    crate::specs::TypeBits::bits_one,
-    crate::specs::TypeBits::bits_two,
-    crate::specs::Header::refused_header,
-    crate::specs::Header::length_in,
-    crate::specs::Header::space_in,
-    crate::specs::Header::kind_of,
-    crate::specs::Header::is_kind,
-    crate::specs::Header::is_long,
-    crate::specs::Header::outside,
-    crate::specs::Header::unfixed,
-    crate::specs::Split::rest_at,
-    crate::specs::Split::token_in,
-    crate::specs::Split::rest_in,
-))]
+#![tactic(auto)]
 
 mod error; // error.rt: why a header was not read
 mod header; // header.rt: what a header says

@@ -19,6 +19,7 @@ pub struct PartialDecode {
 // A part of no bytes.
 const NOWHERE: Place = Place { start: 0, len: 0 };
 
+#[tactic(auto, unfolding(crate::specs::Split::rest_at))]
 fn rest_at(s: &[u8], n: usize) -> Option<Place>
     ensures { option_of result ≡ rest_at s.now n }
 {

@@ -13,6 +13,7 @@ use shared::{ConnectionId, FIXED_BIT, LONG_HEADER_FORM, MAX_CID_SIZE, SPIN_BIT};
 pub const MAX_VERSIONS: usize = 16;
 
 // Whether an argument is outside its rule.
+#[tactic(auto, unfolding(crate::specs::Header::outside))]
 pub(crate) fn is_outside(s: &[u8], local: usize, versions: &[u32]) -> bool
     ensures { result ≡ outside s.now local versions.now }
 {
@@ -20,6 +21,7 @@ pub(crate) fn is_outside(s: &[u8], local: usize, versions: &[u32]) -> bool
 }
 
 // Whether the fixed bit is clear, and grease is off.
+#[tactic(auto, unfolding(crate::specs::Header::unfixed))]
 fn is_unfixed(first: u8, grease: bool) -> bool
     ensures { result ≡ unfixed first grease }
 {

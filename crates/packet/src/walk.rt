@@ -31,17 +31,26 @@ pub fn step(
     ensures { packet_step_of result ≡ packet_step_at s.now at local versions.now grease }
 {
     if crate::protected::is_outside(s, local, versions) {
-        return Err(StepError { start: at, why: PacketDecodeError::Refused(Refusal::Argument) });
+        return Err(StepError {
+            start: at,
+            why: PacketDecodeError::Refused(Refusal::Argument),
+        });
     }
     if s.is_empty() {
-        return Err(StepError { start: at, why: PacketDecodeError::Refused(Refusal::PacketEnd) });
+        return Err(StepError {
+            start: at,
+            why: PacketDecodeError::Refused(Refusal::PacketEnd),
+        });
     }
     if s.len() <= at {
         return Ok(None);
     }
     match crate::split(&s[at..], local, versions, grease) {
         Ok(part) => Ok(Some(Stepped {
-            packet: Place { start: at, len: part.len() },
+            packet: Place {
+                start: at,
+                len: part.len(),
+            },
             plain_header: part.plain_header,
         })),
         Err(why) => Err(StepError { start: at, why }),

@@ -3,21 +3,21 @@ use borrow.Author.Tests.{lt-ltb, le-ltb}
 use Rattle.coding.specs.Words.{and_then}
 use Rattle.coding.specs.Said.{number_read}
 use Rattle.packet.specs.Header.{first_at, header_by}
-use Rattle.packet.specs.Said.{error_of, outcome_of}
+use Rattle.packet.specs.Said.{outcome_of}
 use Rattle.packet.proofs.protected.decode.Goals as goal
 
 pub returns-then-is_outside : goal.returns-then-is_outside
-unfolding header_by outcome_of error_of
+unfolding header_by outcome_of
 returns-then-is_outside c = rw (← c.is_outside.ensures, c.if-is_outside.true)
 
 pub returns-in_err-first : goal.returns-in_err-first
-unfolding header_by and_then number_read outcome_of error_of
+unfolding header_by and_then number_read outcome_of
 returns-in_err-first c =
     let p = err_from_is_err_and c.from_residual.result c.from_residual.ensures.1 in
     rw (p.1, p.2, ← c.is_outside.ensures, c.if-is_outside.false, ← c.in_err-first.ensures)
 
 pub returns-then-is_unfixed : goal.returns-then-is_unfixed
-unfolding header_by first_at and_then number_read outcome_of error_of
+unfolding header_by first_at and_then number_read outcome_of
 returns-then-is_unfixed c =
     rw (← c.is_outside.ensures, c.if-is_outside.false, ← c.in_ok-first.ensures, ← c.is_unfixed.ensures, c.if-is_unfixed.true)
 

@@ -2,16 +2,16 @@ use native.Mathlib.Omega.{arith}
 use borrow.Author.Tests.{le-leb, lt-leb}
 use Rattle.packet.specs.Split.{no_packet}
 use Rattle.packet.specs.Walk.{met_on, step_on, stop_at, packet_step_at}
-use Rattle.packet.specs.Said.{decoded_of, error_of, partial_of, split_of, packet_step_of}
+use Rattle.packet.specs.Said.{decoded_of, partial_of, split_of, packet_step_of}
 use Rattle.packet.proofs.Cases.{from_on, error_says}
 use Rattle.packet.proofs.walk.step.Goals as goal
 
 pub returns-then-is_outside : goal.returns-then-is_outside
-unfolding packet_step_at stop_at packet_step_of error_of
+unfolding packet_step_at stop_at packet_step_of
 returns-then-is_outside c = rw (← c.is_outside.ensures, c.if-is_outside.true)
 
 pub returns-then-is_empty : goal.returns-then-is_empty
-unfolding packet_step_at stop_at packet_step_of error_of
+unfolding packet_step_at stop_at packet_step_of
 returns-then-is_empty c = rw (← c.is_outside.ensures, c.if-is_outside.false, ← c.is_empty.ensures, c.if-is_empty.true)
 
 pub returns-then-s-at : goal.returns-then-s-at
