@@ -8,6 +8,7 @@ ghost use Rattle.text.specs.Decimal.{decimal};
 ghost use Rattle.text.specs.Hex.{hex_digit, hex_of, hex_or};
 
 // How many digits x has.
+#[tactic(auto, using(crate::proofs::Laws::length_one, crate::proofs::Laws::length_more, crate::proofs::Laws::length_u64, crate::proofs::Laws::decimal_some))]
 fn decimal_len(x: u64) -> usize
     ensures { result ≡ length (decimal x) }
 {
@@ -44,6 +45,7 @@ pub fn put_decimal(buf: &mut [u8], at: usize, x: u64) -> usize
     at + n
 }
 
+#[tactic(auto, unfolding(crate::specs::Hex::hex_digit))]
 fn hex_digit(d: u8) -> u8
     requires { d < 16 }
     ensures { result ≡ hex_digit d }
@@ -52,6 +54,7 @@ fn hex_digit(d: u8) -> u8
 }
 
 // Puts bytes in hex.
+#[tactic(auto, using(crate::proofs::Laws::length_hex, coding::proofs::Writes::put_not, coding::proofs::Writes::so_none), unfolding(crate::specs::Hex::hex_of))]
 pub fn put_hex(buf: &mut [u8], at: usize, bytes: &[u8]) -> usize
     ensures { Put (hex_of bytes.now) buf.old at result buf.new }
 {
@@ -66,6 +69,7 @@ pub fn put_hex(buf: &mut [u8], at: usize, bytes: &[u8]) -> usize
 }
 
 // Puts bytes in hex, and a word for none.
+#[tactic(auto, using(crate::proofs::Laws::hex_none, crate::proofs::Laws::hex_some))]
 pub fn put_hex_or(buf: &mut [u8], at: usize, bytes: &[u8], none: &[u8]) -> usize
     ensures { Put (hex_or none.now bytes.now) buf.old at result buf.new }
 {

@@ -3,23 +3,9 @@ use mathlib.Core.Path.{◌≡◌}
 use native.Mathlib.Omega.{arith}
 use lib.ListN.{length, take, length-take}
 use lib.Seq.{take_all}
-use Rattle.coding.proofs.Writes.{so_none, so_put, put_not, put_fits}
-use Rattle.text.specs.Hex.{hex_of}
+use Rattle.coding.proofs.Writes.{so_put, put_fits}
 use Rattle.text.proofs.Laws.{length_hex, hex_more}
 use Rattle.text.proofs.put_hex.Goals as goal
-use Rattle.text.proofs.put_hex.Goals.{then-buf-at-via-then-buf-at, then-buf-at-via-else-buf-at+then-buf-at-2}
-
-pub returns-then-buf-at : goal.returns-then-buf-at
-returns-then-buf-at c =
-    let n = length_hex c.args.bytes.now in
-    elim c.then-buf-at.branch [
-      | then-buf-at-via-then-buf-at w ↦ put_not _ _ _ (omega arith)
-      | then-buf-at-via-else-buf-at+then-buf-at-2 w ↦ put_not _ _ _ (omega arith)
-    ]
-
-pub loop-b-init : goal.loop-b-init
-unfolding hex_of
-loop-b-init c = so_none c.args.buf.now c.args.at
 
 pub loop-b-preserved : goal.loop-b-preserved
 loop-b-preserved c =
