@@ -1,5 +1,5 @@
 // Connection ids (shared.rs; RFC 9000, 5.1 and 17.2).
-#![tactic(auto, unfolding(coding::specs::Words::and_then, coding::specs::Said::number_read, coding::specs::Said::read_of, crate::specs::Cid::cid_of, crate::specs::Cid::cid_on, crate::specs::Cid::long_cid_at, crate::specs::Cid::cid_new, crate::specs::Cid::cid_from, crate::specs::Cid::cid_long, crate::specs::Said::found_of, crate::specs::Said::cid_made_of, crate::specs::Said::cid_read_of))]
+#![tactic(auto, using(crate::proofs::Laws::part_short), unfolding(coding::specs::Words::and_then, coding::specs::Said::number_read, coding::specs::Said::read_of, crate::specs::Cid::cid_of, crate::specs::Cid::cid_on, crate::specs::Cid::long_cid_at, crate::specs::Cid::cid_new, crate::specs::Cid::cid_from, crate::specs::Cid::cid_long, crate::specs::Said::found_of, crate::specs::Said::cid_made_of, crate::specs::Said::cid_read_of))]
 
 ghost use Rattle.std.specs.Prelude.{◌≡◌, ◌≤◌, [], length};
 ghost use Rattle.coding.specs.Said.{answer_of};
