@@ -45,7 +45,7 @@ module _ {A B : Type 0} (said : Result A Refusal → Space → Call B) (back : A
   one_call : (x y : Result A Refusal × Space) (g : Call B) → said x.0 x.1 ≡ g → said y.0 y.1 ≡ g → x ≡ y
   one_call = one_by (λ x. said x.0 x.1) (λ g. (back g.says, space_of g.leaves)) (λ (r, s) i. ((same r s).0 i, (ap space_of (same r s).1 ∙ space_back s) i))
 
-abbrev sent_back : Answer Packet → Result (FullNumber × CutNumber) Refusal
+abbrev pub sent_back : Answer Packet → Result (FullNumber × CutNumber) Refusal
 sent_back = answered (λ k. Err (refusal_of k)) (λ p. Ok (record { 0 = p.number }, p.carries))
 
 pub sent_one : (x y : Result (FullNumber × CutNumber) Refusal × Space) (g : Call Packet) → sent_of x.0 x.1 ≡ g → sent_of y.0 y.1 ≡ g → x ≡ y
@@ -56,7 +56,7 @@ sent_one = one_call sent_of sent_back same
     same (Ok p) s = (refl, refl)
     same (Err why) s = (ap Err (refusal_back why), refl)
 
-abbrev kept_back : Answer Unit → Result Unit Refusal
+abbrev pub kept_back : Answer Unit → Result Unit Refusal
 kept_back = answered (λ k. Err (refusal_of k)) Ok
 
 pub kept_one : (x y : Result Unit Refusal × Space) (g : Call Unit) → kept_of x.0 x.1 ≡ g → kept_of y.0 y.1 ≡ g → x ≡ y

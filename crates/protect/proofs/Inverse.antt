@@ -1,7 +1,7 @@
 -- Each map from the code's answers to the paper's words has an inverse: what is said settles the answer.
 use Rattle.std.specs.Prelude.{Option, Some, None, Result, Ok, Err}
 use mathlib.Core.Path.{◌≡◌, refl, ap}
-use mathlib.Core.Option.{Option as Maybe, none, some}
+use mathlib.Core.Option as math
 use Rattle.coding.specs.Words.{Answer}
 use Rattle.coding.specs.declared.Place.{Place}
 use Rattle.coding.specs.declared.refusal.Refusal.{Refusal}
@@ -12,11 +12,11 @@ use Rattle.protect.specs.Said.{sample_of, opened_of, finished_of}
 use Rattle.protect.specs.declared.Finished.{Finished}
 use Rattle.protect.specs.declared.Finished.TheVariants as fin
 
-abbrev sample_by : Maybe Place → Result (Option Place) Refusal
-sample_by none = Ok None
-sample_by (some place) = Ok (Some place)
+abbrev sample_by : math.Option Place → Result (Option Place) Refusal
+sample_by math.none = Ok None
+sample_by (math.some place) = Ok (Some place)
 
-pub sample_one : (x y : Result (Option Place) Refusal) (g : Answer (Maybe Place)) → sample_of x ≡ g → sample_of y ≡ g → x ≡ y
+pub sample_one : (x y : Result (Option Place) Refusal) (g : Answer (math.Option Place)) → sample_of x ≡ g → sample_of y ≡ g → x ≡ y
 unfolding sample_of
 sample_one = one_by sample_of (answered (λ k. Err (refusal_of k)) sample_by) back
   where

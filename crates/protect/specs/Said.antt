@@ -1,6 +1,6 @@
 -- What each case of the code's arguments and answers says, in document 01's numbers and values.
 use Rattle.std.specs.Prelude.{ℕ, Bool, true, false, Option, Some, None, Result, Ok, Err}
-use Rattle.std.proofs.Math.Option.{Option as Maybe, none, some}
+use Rattle.std.proofs.Math.Option as math
 use Rattle.coding.specs.Words.{Answer, no, ok}
 use Rattle.coding.specs.Refusals.{number_of}
 use Rattle.coding.specs.declared.Place.{Place}
@@ -28,13 +28,13 @@ numbered_of kind.Retry = false
 numbered_of kind.Short = true
 numbered_of kind.VersionNegotiate = false
 
-abbrev pub number_len_of : Option ℕ → Maybe ℕ
-number_len_of (Some k) = some k
-number_len_of None = none
+abbrev pub number_len_of : Option ℕ → math.Option ℕ
+number_len_of (Some k) = math.some k
+number_len_of None = math.none
 
-unfoldable pub sample_of : Result (Option Place) Refusal → Answer (Maybe Place)
-sample_of (Ok (Some place)) = ok (some place)
-sample_of (Ok None) = ok none
+unfoldable pub sample_of : Result (Option Place) Refusal → Answer (math.Option Place)
+sample_of (Ok (Some place)) = ok (math.some place)
+sample_of (Ok None) = ok math.none
 sample_of (Err why) = no (number_of why)
 
 unfoldable pub opened_of : Finished → Opened

@@ -1,5 +1,10 @@
 -- Only one answer meets the contract of each public function.
+use Rattle.std.specs.Prelude.{Result}
 use Rattle.coding.specs.Once.{Once}
+use Rattle.coding.specs.declared.refusal.Refusal.{Refusal}
+use Rattle.shared.specs.declared.kinds.CutNumber.{CutNumber}
+use Rattle.shared.specs.declared.kinds.FullNumber.{FullNumber}
+use Rattle.spaces.specs.declared.Spaces.{Spaces}
 use Rattle.number.proofs.Inverse.{space_one, full_one}
 use Rattle.spaces.proofs.Inverse.{in_one, spaces_one, sent_one, kept_one}
 use Rattle.spaces.specs.contracts.space_of as space_of
@@ -35,18 +40,18 @@ put_once : Once put.ended put_reads.Post (λ κs x s. x)
 unfolding Once
 put_once κs a x y s t p q = spaces_one x y _ p q
 
-send_once : Once send.ended send_reads.Post (λ κs x s. x)
+send_once : Once {B = Result (FullNumber × CutNumber) Refusal × Spaces} send.ended send_reads.Post (λ κs x s. (x, s.0.now))
 unfolding Once
-send_once κs a x y s t p q = sent_one x y _ p q
+send_once κs a x y s t p q = sent_one (x, s.0.now) (y, t.0.now) _ p q
 
-acknowledge_once : Once acknowledge.ended acknowledge_reads.Post (λ κs x s. x)
+acknowledge_once : Once {B = Result Unit Refusal × Spaces} acknowledge.ended acknowledge_reads.Post (λ κs x s. (x, s.0.now))
 unfolding Once
-acknowledge_once κs a x y s t p q = kept_one x y _ p q
+acknowledge_once κs a x y s t p q = kept_one (x, s.0.now) (y, t.0.now) _ p q
 
 read_once : Once read.ended read_reads.Post (λ κs x s. x)
 unfolding Once
 read_once κs a x y s t p q = full_one x y _ p q
 
-accept_once : Once accept.ended accept_reads.Post (λ κs x s. x)
+accept_once : Once {B = Result Unit Refusal × Spaces} accept.ended accept_reads.Post (λ κs x s. (x, s.0.now))
 unfolding Once
-accept_once κs a x y s t p q = kept_one x y _ p q
+accept_once κs a x y s t p q = kept_one (x, s.0.now) (y, t.0.now) _ p q

@@ -116,7 +116,6 @@ kind_in (short spin) = kind.Short
 kind_in (negotiate bits) = kind.VersionNegotiate
 
 pub as_header : (h : Header) → space_of (id_in (space_for (kind_in h))) ≡ space_in (ok h)
-unfolding space_of space_in
 as_header (initial token len) = refl
 as_header (zero_rtt len) = refl
 as_header (handshake len) = refl

@@ -1,6 +1,5 @@
 -- The line of three spaces is not empty: all three move; an acknowledgement shortens the next cut of its own space alone; and every
 -- length is read rightly and misread in every space. The incident: an acknowledgement of a number that its space did not send is 14.
-use Rattle.std.specs.Prelude.{if◌then◌else◌}
 use Prim.Native.Nat.{ℕ, ◌≤◌}
 use mathlib.Core.Path.{◌≡◌, refl, sym, ap, ◌∙◌}
 use mathlib.Core.Bool.{Bool, true, false}

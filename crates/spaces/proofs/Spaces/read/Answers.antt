@@ -11,5 +11,5 @@ returns-in_default c =
 
 pub returns : goal.returns
 returns c =
-    let q = rw c.in-In.is at c.space_of.ensures in
+    let q = rw c.in-Some.is at c.space_of.ensures in
     rw (c.read.ensures, c.get.ensures, ← q, lifted_says (read_call _) _ _)
