@@ -1,5 +1,4 @@
 -- The closes, and the last arm of `is_ack_eliciting`: every kind that no arm before it names.
-use Rattle.std.specs.Prelude.{if◌then◌else◌}
 use mathlib.Core.Path.{◌≡◌, refl}
 use mathlib.Core.Bool.{true, false}
 use Rattle.frame.specs.declared.kinds.Ack.{Ack}

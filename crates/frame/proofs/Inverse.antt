@@ -1,9 +1,9 @@
 -- What an answer says gives the answer back: no two answers say the same.
+use Rattle.std.specs.Prelude.{Option, Some, None, Result, Ok, Err}
 use mathlib.Core.Path.{◌≡◌, refl, ap}
 use mathlib.Core.List.{List}
 use mathlib.Core.Bool.{Bool, true, false, cond}
-use mathlib.Core.Option.{Option, some}
-use mathlib.Core.Option as option
+use mathlib.Core.Option as math
 use Prim.Native.Nat.{ℕ}
 use lib.Dec.{eqb}
 use Rattle.coding.specs.declared.Place.{Place}
@@ -12,17 +12,13 @@ use Rattle.coding.proofs.Inverse.{one_by}
 use Rattle.shared.specs.declared.kinds.Dir.{Dir}
 use Rattle.shared.specs.declared.kinds.Dir.TheVariants as dir
 use Rattle.shared.specs.declared.kinds.StreamId.{StreamId}
-use Rattle.frame.specs.declared.kinds.TypeRead.{TypeRead}
-use Rattle.frame.specs.declared.kinds.TypeRead.TheVariants as ty
-use Rattle.frame.specs.declared.kinds.AckEcn.{AckEcn}
-use Rattle.frame.specs.declared.kinds.AckEcn.TheVariants as ecn
+use Rattle.shared.specs.declared.kinds.FrameType.{FrameType}
+use Rattle.ecn.specs.declared.EcnCounts.{EcnCounts}
 use Rattle.frame.specs.declared.kinds.Close.TheVariants as close
 use Rattle.frame.specs.declared.kinds.Frame.{Frame}
 use Rattle.frame.specs.declared.kinds.Frame.TheVariants as frame
 use Rattle.frame.specs.declared.FrameRead.{FrameRead}
-use Rattle.frame.specs.declared.FrameRead.TheVariants as read
-use Rattle.frame.specs.declared.FrameStep.{FrameStep}
-use Rattle.frame.specs.declared.FrameStep.TheVariants as step
+use Rattle.frame.specs.declared.InvalidFrame.{InvalidFrame}
 use Rattle.frame.specs.declared.SizedStep.{SizedStep}
 use Rattle.frame.specs.Format.{Value, num, place, none, Said, said}
 use Rattle.frame.specs.Table.{FrameOutcome, taken, refused}
@@ -38,19 +34,19 @@ place_in (num n) = record { start = 0; len = 0 }
 place_in (place p) = p
 place_in none = record { start = 0; len = 0 }
 
-abbrev type_in : Value → TypeRead
-type_in (num n) = ty.Type (record { 0 = n })
-type_in (place p) = ty.Nothing
-type_in none = ty.Nothing
+abbrev type_in : Value → Option FrameType
+type_in (num n) = Some (record { 0 = n })
+type_in (place p) = None
+type_in none = None
 
 abbrev dir_in : ℕ → Dir
 dir_in n = cond (eqb n 0) dir.Bi dir.Uni
 
 -- the counts from the fourth value on
-abbrev ecn_from : Value → List Value → AckEcn
-ecn_from (num x) vs = ecn.Counts (record { ect0 = x; ect1 = num_of (nth vs 4); ce = num_of (nth vs 5) })
-ecn_from (place p) vs = ecn.Nothing
-ecn_from none vs = ecn.Nothing
+abbrev ecn_from : Value → List Value → Option EcnCounts
+ecn_from (num x) vs = Some (record { ect0 = x; ect1 = num_of (nth vs 4); ce = num_of (nth vs 5) })
+ecn_from (place p) vs = None
+ecn_from none vs = None
 
 -- ---- the frame of a name with these values
 
@@ -96,17 +92,17 @@ flag_back id offset true false p = refl
 flag_back id offset false true p = refl
 flag_back id offset false false p = refl
 
-ecn_back : (l d : ℕ) (p : Place) (e : AckEcn)
+ecn_back : (l d : ℕ) (p : Place) (e : Option EcnCounts)
     → unsaid (frame_said (frame.Ack (record { largest = record { 0 = l }; delay = d; additional = p; ecn = e })))
     ≡ frame.Ack (record { largest = record { 0 = l }; delay = d; additional = p; ecn = e })
-ecn_back l d p ecn.Nothing = refl
-ecn_back l d p (ecn.Counts x) = refl
+ecn_back l d p None = refl
+ecn_back l d p (Some x) = refl
 
-type_back : (code : ℕ) (t : TypeRead) (p : Place)
+type_back : (code : ℕ) (t : Option FrameType) (p : Place)
     → unsaid (frame_said (frame.Close (close.Connection (record { error_code = code; frame_type = t; reason = p }))))
     ≡ frame.Close (close.Connection (record { error_code = code; frame_type = t; reason = p }))
-type_back code ty.Nothing p = refl
-type_back code (ty.Type t) p = refl
+type_back code None p = refl
+type_back code (Some t) p = refl
 
 len_back : (len : Bool) (p : Place) → unsaid (frame_said (frame.Datagram (record { len = len; «data» = p }))) ≡ frame.Datagram (record { len = len; «data» = p })
 len_back true p = refl
@@ -142,36 +138,36 @@ frame_back frame.HandshakeDone = refl
 
 -- ---- the answers
 
-abbrev type_out : Option ℕ → TypeRead
-type_out option.none = ty.Nothing
-type_out (some t) = ty.Type (record { 0 = t })
+abbrev type_out : math.Option ℕ → Option FrameType
+type_out math.none = None
+type_out (math.some t) = Some (record { 0 = t })
 
-seen_back : (t : TypeRead) → type_out (type_seen t) ≡ t
-seen_back ty.Nothing = refl
-seen_back (ty.Type t) = refl
+seen_back : (t : Option FrameType) → type_out (type_seen t) ≡ t
+seen_back None = refl
+seen_back (Some t) = refl
 
-abbrev pub read_of : FrameOutcome → FrameRead
-read_of (taken t f n) = read.Got (unsaid f) (record { 0 = t }) n
-read_of (refused k start t) = read.Refused (refusal_of k) start (type_out t)
+abbrev pub read_of : FrameOutcome → Result FrameRead InvalidFrame
+read_of (taken t f n) = Ok (record { frame = unsaid f; ty = record { 0 = t }; next = n })
+read_of (refused k start t) = Err (record { why = refusal_of k; start = start; ty = type_out t })
 
-read_back : (r : FrameRead) → read_of (said_of r) ≡ r
+read_back : (r : Result FrameRead InvalidFrame) → read_of (said_of r) ≡ r
 unfolding said_of
-read_back (read.Got f t n) = rw (frame_back f)
-read_back (read.Refused why start t) = rw (refusal_back why, seen_back t)
+read_back (Ok r) = λ i. Ok (record { frame = frame_back r.frame i; ty = r.ty; next = r.next })
+read_back (Err e) = λ i. Err (record { why = refusal_back e.why i; start = e.start; ty = seen_back e.ty i })
 
-abbrev step_in : WalkStep → FrameStep
-step_in (walk.frame o) = step.Read (read_of o)
-step_in end = step.End
+abbrev step_in : WalkStep → Option (Result FrameRead InvalidFrame)
+step_in (walk.frame o) = Some (read_of o)
+step_in end = None
 
-step_back : (r : FrameStep) → step_in (step_of r) ≡ r
+step_back : (r : Option (Result FrameRead InvalidFrame)) → step_in (step_of r) ≡ r
 unfolding step_of
-step_back (step.Read r) = ap step.Read (read_back r)
-step_back step.End = refl
+step_back (Some r) = ap Some (read_back r)
+step_back None = refl
 
-pub read_one : (x y : FrameRead) (o : FrameOutcome) → said_of x ≡ o → said_of y ≡ o → x ≡ y
+pub read_one : (x y : Result FrameRead InvalidFrame) (o : FrameOutcome) → said_of x ≡ o → said_of y ≡ o → x ≡ y
 read_one = one_by said_of read_of read_back
 
-pub step_one : (x y : FrameStep) (s : WalkStep) → step_of x ≡ s → step_of y ≡ s → x ≡ y
+pub step_one : (x y : Option (Result FrameRead InvalidFrame)) (s : WalkStep) → step_of x ≡ s → step_of y ≡ s → x ≡ y
 step_one = one_by step_of step_in step_back
 
 pub sized_one : (x y : SizedStep) (s : WalkStep × ℕ) → sized_step_of x ≡ s → sized_step_of y ≡ s → x ≡ y

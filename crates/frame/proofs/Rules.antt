@@ -19,6 +19,7 @@ use Rattle.coding.specs.declared.refusal.UnexpectedEnd.{UnexpectedEnd}
 use Rattle.ack.proofs.Tries.{went, left, tries}
 use Rattle.frame.specs.declared.kinds.Frame.{Frame}
 use Rattle.frame.specs.Format.{Value, num, place, Said, var, bytes, rest, const, Read, refuse, then_read, bytes_at, cid_at, blocks_at, field_at, var_if, data_if}
+use Rattle.frame.specs.Table.{FrameOutcome, taken, refused, outcome}
 use Rattle.frame.specs.Said.{frame_said, field_of, body_of}
 
 -- ---- a field that was found behind a `?`, or refused
@@ -73,6 +74,16 @@ module _ (r : Result (Frame × ℕ) Refusal) where
   pub exit_body_end : IsErr r × IsErrAnd r (λ e. e ≡ refusal.UnexpectedEnd) → body_of r ≡ refuse 10
   exit_body_end i = exit_body refusal.UnexpectedEnd i
 
+-- what follows a type was read, or refused
+module _ (x : FrameOutcome) (start t : ℕ) (r : Result (Frame × ℕ) Refusal) (b : Read Said) (e : body_of r ≡ b) where
+  pub body_on : (f : Frame) (n : ℕ) → r ≡ Ok (f, n) → x ≡ taken t (frame_said f) n → x ≡ outcome start t b
+  unfolding outcome body_of
+  body_on f n q h = rw (← e, q) h
+
+  pub body_no : (why : Refusal) → r ≡ Err why → x ≡ refused (number_of why) start (some t) → x ≡ outcome start t b
+  unfolding outcome body_of
+  body_no why q h = rw (← e, q) h
+
 -- a field that goes by a bit of the type, as the code reads it
 module _ (s : List ℕ) (at : ℕ) (seen : List Value) (next : Value → ℕ → Read Said) where
   var_if_law : (b : Bool) → field_at (if b then var else const 0) s at seen next ≡ and_then (var_if b s at) (refuse 10) (λ v n. next (num v) n)
@@ -107,4 +118,4 @@ module _ (s : List ℕ) (at : ℕ) (seen : List Value) (next : Value → ℕ →
       data_if_left end q h = rw (data_if_law b, ← same, ← e, left r f g end q) h
 
 pub ruleset frames =
-    (cid_went, cid_left, blocks_went, blocks_left, var_if_went, var_if_left, data_if_went, data_if_left, bytes_went, bytes_left, exit_field, exit_field_end, exit_body, exit_body_end, tries)
+    (cid_went, cid_left, blocks_went, blocks_left, var_if_went, var_if_left, data_if_went, data_if_left, bytes_went, bytes_left, exit_field, exit_field_end, exit_body, exit_body_end, body_on, body_no, tries)

@@ -1,5 +1,7 @@
 -- What the answer of the block scan says of the field of ACK blocks.
-use Rattle.std.specs.Prelude.{if◌then◌else◌}
+use Rattle.std.specs.Prelude.{if◌then◌else◌, Result, Ok}
+use Rattle.std.specs.Result.{result_from_control_flow}
+use Rattle.std.proofs.Common.{Continue, Break}
 use mathlib.Core.Path.{◌≡◌, sym, ◌∙◌}
 use mathlib.Core.List.{List}
 use mathlib.Core.Bool.{Bool, true, false}
@@ -12,15 +14,14 @@ use Rattle.coding.specs.Refusals.{number_of}
 use Rattle.coding.specs.declared.Place.{Place}
 use Rattle.coding.specs.declared.refusal.Refusal.{Refusal}
 use Rattle.ack.specs.Scan.{scan_at, scanned}
-use Rattle.ack.specs.Said.{scanned_of}
-use Rattle.ack.specs.declared.Scanned.{Scanned}
-use Rattle.ack.specs.declared.Scanned.TheVariants as scan
+use Rattle.coding.specs.Said.{answer_of}
+use Rattle.ack.proofs.Tries.{went, left}
 use Rattle.ack.proofs.Laws.{in_rule, Inside, scan_inside}
 use Rattle.frame.specs.Format.{Read, done, refuse, up_to}
 
 -- the scan ends at its start or past it
-pub scan_past : (s : List ℕ) (p largest n : ℕ) (r : Scanned) (next : ℕ) → scanned_of r ≡ scanned s p largest n → r ≡ scan.To next → p ≤ next
-unfolding scanned_of scanned
+pub scan_past : (s : List ℕ) (p largest n : ℕ) (r : Result ℕ Refusal) (next : ℕ) → answer_of r ≡ scanned s p largest n → r ≡ Ok next → p ≤ next
+unfolding answer_of scanned
 scan_past s p largest n r next e q = go (ltb 65527 (length s)) (leb (2 ^ 62) largest) (leb (2 ^ 62) n) (sym (rw q at e))
   where
     go : (l a b : Bool) → (if l then no 14 else if a then no 14 else if b then no 14 else scan_at s p largest n) ≡ ok next → p ≤ next
@@ -29,14 +30,15 @@ scan_past s p largest n r next e q = go (ltb 65527 (length s)) (leb (2 ^ 62) lar
     go false false true h = let z : ◌≡◌ {A = ℕ} 0 1 = cc in absurd (omega arith)
     go false false false h = let i : Inside s p (ok next) = rw h at (scan_inside s p largest n) in i.0
 
-module _ (x : Read Place) (s : List ℕ) (p largest n : ℕ) (r : Scanned) (e : scanned_of r ≡ scanned s p largest n) (short : length s ≤ 65527) (small : largest < 2 ^ 62) (few : n < 2 ^ 62) where
-  same : scanned_of r ≡ scan_at s p largest n
+module _ (x : Read Place) (s : List ℕ) (p largest n : ℕ) (r : Result ℕ Refusal) (e : answer_of r ≡ scanned s p largest n) (short : length s ≤ 65527) (small : largest < 2 ^ 62) (few : n < 2 ^ 62) where
+  same : answer_of r ≡ scan_at s p largest n
   same = e ∙ in_rule s p largest n short small few
 
-  pub scan_on : (next : ℕ) → r ≡ scan.To next → x ≡ done (record { start = p; len = next - p }) next → x ≡ up_to p (scan_at s p largest n)
-  unfolding up_to scanned_of
-  scan_on next q h = rw (← same, q) h
+  module _ (b : _) (g : r ≡ result_from_control_flow b) where
+    pub scan_on : (next : ℕ) → b ≡ Continue next → x ≡ done (record { start = p; len = next - p }) next → x ≡ up_to p (scan_at s p largest n)
+    unfolding up_to answer_of
+    scan_on next q h = rw (← same, went r b g next q) h
 
-  pub scan_no : (why : Refusal) → r ≡ scan.Refused why → x ≡ refuse (number_of why) → x ≡ up_to p (scan_at s p largest n)
-  unfolding up_to scanned_of
-  scan_no why q h = rw (← same, q) h
+    pub scan_no : (why : _) → b ≡ Break why → x ≡ refuse (number_of why.0) → x ≡ up_to p (scan_at s p largest n)
+    unfolding up_to answer_of
+    scan_no why q h = rw (← same, left r b g why q) h

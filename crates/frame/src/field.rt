@@ -28,10 +28,11 @@ pub(crate) fn cid(s: &[u8], at: usize) -> Result<(Place, usize), Refusal>
     ensures { field_of result ≡ cid_at s.now at }
 {
     let (length, p) = coding::get::<u8>(s, at)?;
-    if length == 0 || MAX_CID_SIZE < usize::from(length) {
+    if length == 0 || MAX_CID_SIZE < length as usize {
         return Err(Refusal::Malformed);
     }
-    Ok(coding::take(s, p, u64::from(length))?)
+    let (id, next) = coding::take(s, p, length as u64)?;
+    Ok((id, next))
 }
 
 // A count, and the ACK blocks of so many rounds.

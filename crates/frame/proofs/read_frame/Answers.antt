@@ -7,10 +7,10 @@ pub returns-in_default : goal.returns-in_default
 unfolding frame_at said_of
 returns-in_default c = search frames depth 40 fits 4000
 
-pub returns-in-Done : goal.returns-in-Done
+pub returns-in-Ok-read_body : goal.returns-in-Ok-read_body
 unfolding frame_at said_of
-returns-in-Done c = search frames depth 40 fits 4000
+returns-in-Ok-read_body c = search frames depth 40 fits 4000
 
-pub returns-in-Refused : goal.returns-in-Refused
+pub returns-in-Err : goal.returns-in-Err
 unfolding frame_at said_of
-returns-in-Refused c = search frames depth 40 fits 4000
+returns-in-Err c = search frames depth 40 fits 4000

@@ -3,9 +3,9 @@ use Rattle.frame.specs.Said.{body_of}
 use Rattle.frame.proofs.Rules.{frames}
 use Rattle.frame.proofs.body.max_streams.Goals as goal
 
-pub returns-in_default : goal.returns-in_default
-unfolding fields_at field_at body_of
-returns-in_default c = search frames depth 40 fits 4000
+pub returns-in_err-count : goal.returns-in_err-count
+unfolding fields_at field_at
+returns-in_err-count c = search frames depth 40 fits 4000
 
 pub returns : goal.returns
 unfolding fields_at field_at body_of

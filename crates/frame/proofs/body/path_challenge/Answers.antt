@@ -4,9 +4,9 @@ use Rattle.frame.specs.Said.{body_of}
 use Rattle.frame.proofs.Rules.{frames}
 use Rattle.frame.proofs.body.path_challenge.Goals as goal
 
-pub returns-in_default : goal.returns-in_default
-unfolding frame_body_at table fields_at field_at body_of
-returns-in_default c = search frames depth 40 fits 4000
+pub returns-in_err-x : goal.returns-in_err-x
+unfolding frame_body_at table fields_at field_at
+returns-in_err-x c = search frames depth 40 fits 4000
 
 pub returns : goal.returns
 unfolding frame_body_at table fields_at field_at body_of

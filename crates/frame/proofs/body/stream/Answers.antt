@@ -3,17 +3,17 @@ use Rattle.frame.specs.Said.{body_of}
 use Rattle.frame.proofs.Rules.{frames}
 use Rattle.frame.proofs.body.stream.Goals as goal
 
-pub returns-in_default : goal.returns-in_default
-unfolding fields_at field_at body_of
-returns-in_default c = search frames depth 40 fits 4000
+pub returns-in_err-id : goal.returns-in_err-id
+unfolding fields_at field_at
+returns-in_err-id c = search frames depth 40 fits 4000
 
-pub returns-in_default-var_if : goal.returns-in_default-var_if
-unfolding fields_at field_at body_of
-returns-in_default-var_if c = search frames depth 40 fits 4000
+pub returns-in_err-offset : goal.returns-in_err-offset
+unfolding fields_at field_at
+returns-in_err-offset c = search frames depth 40 fits 4000
 
-pub returns-in_default-data_if : goal.returns-in_default-data_if
-unfolding fields_at field_at body_of
-returns-in_default-data_if c = search frames depth 40 fits 4000
+pub returns-in_err-data : goal.returns-in_err-data
+unfolding fields_at field_at
+returns-in_err-data c = search frames depth 40 fits 4000
 
 pub returns : goal.returns
 unfolding fields_at field_at body_of

@@ -6,6 +6,6 @@ pub returns-then-x-eq0 : goal.returns-then-x-eq0
 unfolding or_nothing
 returns-then-x-eq0 c = search choices
 
-pub returns : goal.returns
+pub returns-else-x-eq0 : goal.returns-else-x-eq0
 unfolding or_nothing
-returns c = search choices
+returns-else-x-eq0 c = search choices

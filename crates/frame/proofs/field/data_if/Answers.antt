@@ -1,4 +1,3 @@
-use Rattle.std.specs.Prelude.{if◌then◌else◌}
 use Rattle.frame.specs.Format.{data_if}
 use Rattle.frame.proofs.field.data_if.Goals as goal
 
@@ -6,6 +5,6 @@ pub returns-then-there : goal.returns-then-there
 unfolding data_if
 returns-then-there c = rw c.if-there.true c.take_len.ensures
 
-pub returns : goal.returns
+pub returns-else-there : goal.returns-else-there
 unfolding data_if
-returns c = rw c.if-there.false c.take_remaining.ensures
+returns-else-there c = rw c.if-there.false c.take_remaining.ensures

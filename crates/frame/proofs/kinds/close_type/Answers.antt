@@ -1,4 +1,3 @@
-use Rattle.std.specs.Prelude.{if◌then◌else◌}
 use Rattle.frame.specs.Types.{frame_type_of}
 use Rattle.frame.proofs.kinds.close_type.Goals as goal
 

@@ -1,4 +1,3 @@
-use Rattle.std.specs.Prelude.{if◌then◌else◌}
 use borrow.Author.Tests.{eq-eqb, ne_eqb}
 use Rattle.frame.specs.Types.{frame_type_of}
 use Rattle.frame.proofs.kinds.stream_type.Goals as goal

@@ -1,4 +1,3 @@
-use Rattle.std.specs.Prelude.{if◌then◌else◌}
 use Rattle.frame.specs.Types.{ack_eliciting}
 use Rattle.frame.proofs.Elicits.{closes, elicits}
 use Rattle.frame.proofs.kinds.Frame.is_ack_eliciting.Goals as goal

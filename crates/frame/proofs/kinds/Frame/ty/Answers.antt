@@ -1,4 +1,3 @@
-use Rattle.std.specs.Prelude.{if◌then◌else◌}
 use Rattle.frame.specs.Types.{frame_type_of}
 use Rattle.frame.proofs.kinds.Frame.ty.Goals as goal
 
