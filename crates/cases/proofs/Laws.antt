@@ -1,66 +1,64 @@
 -- Laws of this crate's definitions.
-use Rattle.std.specs.Prelude.{if◌then◌else◌}
-use mathlib.Core.Path.{◌≡◌, refl}
-use mathlib.Core.List.{List}
+use Rattle.std.specs.Prelude.{if◌then◌else◌, Result, Ok, Err}
+use mathlib.Core.Path.{◌≡◌, refl, ap}
+use mathlib.Core.List.{List, [], ◌∷◌}
 use mathlib.Core.Bool.{Bool, true, false}
 use Prim.Native.Nat.{ℕ, zero, suc, ◌+◌, ◌-◌, ◌≤◌, ◌<◌}
-use native.Mathlib.Nat.{not-suc-le-zero}
+use native.Mathlib.Nat.{add-zero, not-suc-le-zero}
 use native.Mathlib.Numerals.{add-one}
 use native.Mathlib.Omega.{arith}
 use lib.ListN.{length, drop, get_or, set, length-take}
 use lib.Seq.{drop-cons}
+use Rattle.std.proofs.lemmas.List.{append-nil, take-append-drop}
 use lib.Dec.{leb}
 use borrow.Author.Tests.{leb-true}
 use Rattle.coding.specs.Words.{cut, and_then}
 use Rattle.coding.specs.Bytes.{splice}
 use Rattle.coding.specs.Reading.{fixed_at}
-use Rattle.coding.specs.Said.{place_of, u32_of}
+use Rattle.coding.specs.Said.{read_of, number_read}
 use Rattle.coding.specs.Writing.{Put}
 use Rattle.coding.specs.declared.Place.{Place}
-use Rattle.coding.specs.declared.PlaceRead.{PlaceRead}
-use Rattle.coding.specs.declared.PlaceRead.TheVariants as place
-use Rattle.coding.specs.declared.U32Read.{U32Read}
-use Rattle.coding.specs.declared.U32Read.TheVariants as u32
+use Rattle.coding.specs.declared.refusal.UnexpectedEnd.{UnexpectedEnd}
 use Rattle.coding.proofs.Laws.{length_splice}
-use Rattle.text.specs.Puts.{puts}
+use Rattle.text.specs.Puts.{puts, put_one}
 use Rattle.text.proofs.Puts.{puts_more}
 use Rattle.cases.specs.Records.{sized_at, part_after, Counts, words_from}
 use Rattle.cases.specs.Lines.{and_num, and_nums}
 
 -- ---- parts of a record, one after the other
 
-module _ (s : List ℕ) (at left : ℕ) (r : PlaceRead) (e : place_of r ≡ sized_at s at) where
-  pub after_more : (p : Place) (n : ℕ) → 0 < left → r ≡ place.At p n → part_after left s at ≡ part_after (left - 1) s n
-  unfolding place_of part_after and_then
+module _ (s : List ℕ) (at left : ℕ) (r : Result (Place × ℕ) UnexpectedEnd) (e : read_of r ≡ sized_at s at) where
+  pub after_more : (p : Place) (n : ℕ) → 0 < left → r ≡ Ok (p, n) → part_after left s at ≡ part_after (left - 1) s n
+  unfolding read_of part_after and_then
   after_more p n = go left
     where
-      go : (k : ℕ) → 0 < k → r ≡ place.At p n → part_after k s at ≡ part_after (k - 1) s n
+      go : (k : ℕ) → 0 < k → r ≡ Ok (p, n) → part_after k s at ≡ part_after (k - 1) s n
       go zero h q = absurd (not-suc-le-zero h)
       go (suc k) h q =
           let d : suc k - 1 ≡ k = omega arith in
           rw (← e, q, d)
 
-  pub after_cut : 0 < left → r ≡ place.End → part_after left s at ≡ cut
-  unfolding place_of part_after and_then
-  after_cut = go left
+  pub after_cut : (end : UnexpectedEnd) → 0 < left → r ≡ Err end → part_after left s at ≡ cut
+  unfolding read_of part_after and_then
+  after_cut end = go left
     where
-      go : (k : ℕ) → 0 < k → r ≡ place.End → part_after k s at ≡ cut
+      go : (k : ℕ) → 0 < k → r ≡ Err end → part_after k s at ≡ cut
       go zero h q = absurd (not-suc-le-zero h)
       go (suc k) h q = rw (← e, q)
 
 -- ---- numbers of 4 bytes, one after the other
 
-module _ (s : List ℕ) (at most n : ℕ) (list : List ℕ) (r : U32Read) (e : u32_of r ≡ fixed_at 4 s at) where
-  pub words_more : (x next : ℕ) → n < most → r ≡ u32.Num x next
+module _ (s : List ℕ) (at most n : ℕ) (list : List ℕ) (r : Result (ℕ × ℕ) UnexpectedEnd) (e : number_read (λ (x : ℕ). x) r ≡ fixed_at 4 s at) where
+  pub words_more : (x next : ℕ) → n < most → r ≡ Ok (x, next)
       → words_from (most - n) s at (n, list) ≡ words_from (most - (n + 1)) s next (n + 1, set list n x)
-  unfolding u32_of words_from and_then
+  unfolding number_read words_from and_then
   words_more x next h q =
       let d : most - n ≡ suc (most - (n + 1)) = omega arith in
       rw (d, ← e, q)
 
-  pub words_cut : n < most → r ≡ u32.End → words_from (most - n) s at (n, list) ≡ (n, list)
-  unfolding u32_of words_from and_then
-  words_cut h q =
+  pub words_cut : (end : UnexpectedEnd) → n < most → r ≡ Err end → words_from (most - n) s at (n, list) ≡ (n, list)
+  unfolding number_read words_from and_then
+  words_cut end h q =
       let d : most - n ≡ suc (most - (n + 1)) = omega arith in
       rw (d, ← e, q)
 
@@ -101,3 +99,16 @@ pub nums_more : (ns : List ℕ) (i : ℕ) (o : ℕ × List ℕ) → i < length n
     → puts (and_nums (drop i ns)) o ≡ puts (and_nums (drop (i + 1) ns)) (puts (and_num (get_or ns i 0)) o)
 unfolding and_nums
 nums_more ns i o h = rw (add-one, drop-cons ns i 0 h) (puts_more (and_num (get_or ns i 0)) (and_nums (drop (suc i) ns)) o)
+
+-- a piece of no characters
+splice_none : (l : List ℕ) (at : ℕ) → splice l at [] ≡ l
+unfolding splice
+splice_none l at = simp (add-zero, append-nil, take-append-drop)
+
+pub no_piece : (ys : List (List ℕ)) (o : ℕ × List ℕ) → puts ([] ∷ ys) o ≡ puts ys o
+unfolding puts put_one
+no_piece ys (at, old) = ap (puts ys) (go (leb (at + 0) (length old)))
+  where
+    go : (t : Bool) → ◌≡◌ {A = ℕ × List ℕ} (if t then (at + 0, splice old at []) else (at, old)) (at, old)
+    go true = rw (add-zero, splice_none)
+    go false = refl

@@ -1,5 +1,5 @@
 -- What is wrong with an input is told: a record that is cut is not taken for the input's end, and no other line is that of a bad one.
-use Rattle.std.specs.Prelude.{if◌then◌else◌}
+use Rattle.std.specs.Prelude.{Result, Ok, Err}
 use mathlib.Core.Path.{◌≡◌, refl, ap}
 use mathlib.Core.List.{List}
 use mathlib.Core.Bool.{Bool, true, false}
@@ -14,6 +14,7 @@ use Rattle.coding.proofs.Rules.{then_all}
 use Rattle.cases.specs.Records.{Case, asked, ended, stopped, head_in}
 use Rattle.cases.specs.Lines.{end_word, bad_word}
 use Rattle.cases.specs.Said.{word_of, is_bad}
+use Rattle.coding.specs.declared.refusal.Refusal.{Refusal}
 use Rattle.cases.specs.declared.line.Answer.{Answer}
 use Rattle.cases.specs.declared.line.Answer.TheVariants as answer
 
@@ -46,16 +47,16 @@ unfolding end_word
 stop_told e = let f = ap (λ (l : List ℕ). get_or l 0 0) e in omega (arith, f)
 
 -- and no answer but that of a bad record has its word
-pub bad_told : (a : Answer) → word_of a ≡ bad_word → is_bad a ≡ true
+pub bad_told : (a : Result Answer Refusal) → word_of a ≡ bad_word → is_bad a ≡ true
 unfolding word_of is_bad
 bad_told a e = go a (ap (λ (l : List ℕ). get_or l 0 0) e)
   where
-    go : (x : Answer) → get_or (word_of x) 0 0 ≡ get_or bad_word 0 0 → is_bad x ≡ true
-    go answer.Bad f = refl
-    go answer.Nothing f = absurd (omega (arith, f))
-    go (answer.No why) f = absurd (omega (arith, f))
-    go answer.Done f = absurd (omega (arith, f))
-    go (answer.One x) f = absurd (omega (arith, f))
-    go (answer.Two x y) f = absurd (omega (arith, f))
-    go (answer.Three x y z) f = absurd (omega (arith, f))
-    go (answer.Number x) f = absurd (omega (arith, f))
+    go : (x : Result Answer Refusal) → get_or (word_of x) 0 0 ≡ get_or bad_word 0 0 → is_bad x ≡ true
+    go (Ok answer.Bad) f = refl
+    go (Ok answer.Nothing) f = absurd (omega (arith, f))
+    go (Err why) f = absurd (omega (arith, f))
+    go (Ok answer.Done) f = absurd (omega (arith, f))
+    go (Ok (answer.One x)) f = absurd (omega (arith, f))
+    go (Ok (answer.Two x y)) f = absurd (omega (arith, f))
+    go (Ok (answer.Three x y z)) f = absurd (omega (arith, f))
+    go (Ok (answer.Number x)) f = absurd (omega (arith, f))

@@ -3,3 +3,4 @@ pub mod Records
 pub mod Lines
 pub mod Said
 pub mod Stdio
+pub mod Out

@@ -40,10 +40,6 @@ no_word = 0x6e ∷ 0x6f ∷ []
 abbrev pub bad_word : List ℕ
 bad_word = 0x42 ∷ 0x41 ∷ 0x44 ∷ 0x20 ∷ 0x52 ∷ 0x45 ∷ 0x43 ∷ 0x4f ∷ 0x52 ∷ 0x44 ∷ []
 
--- all of them, "no" with "none"
-abbrev pub answer_words : List ℕ
-answer_words = ok_word ++ (space ++ (none_word ++ (space ++ bad_word)))
-
 -- "end "
 abbrev pub all_word : List ℕ
 all_word = 0x65 ∷ 0x6e ∷ 0x64 ∷ 0x20 ∷ []
@@ -51,9 +47,6 @@ all_word = 0x65 ∷ 0x6e ∷ 0x64 ∷ 0x20 ∷ []
 -- "BAD RECORD", a line feed and "stopped "
 abbrev pub cut_word : List ℕ
 cut_word = bad_word ++ (0x0a ∷ 0x73 ∷ 0x74 ∷ 0x6f ∷ 0x70 ∷ 0x70 ∷ 0x65 ∷ 0x64 ∷ 0x20 ∷ [])
-
-abbrev pub end_words : List ℕ
-end_words = all_word ++ cut_word
 
 -- how the records end
 unfoldable pub end_word : Case → List ℕ

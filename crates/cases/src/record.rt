@@ -2,22 +2,21 @@
 // its parts, each after its length in 3 bytes. A number or a part that a record does not have reads as 0, and as none.
 ghost use Rattle.std.specs.Prelude.{◌≡◌, ◌%◌};
 ghost use Rattle.coding.specs.Places.{Part, start_of, part_of};
-ghost use Rattle.coding.specs.Said.{place_of};
+ghost use Rattle.coding.specs.Said.{read_of};
 ghost use Rattle.cases.specs.Records.{head_in, sized_at, number_in, numbers_in, part_in, byte_in, five_in, Laid, Listed};
-ghost use Rattle.cases.specs.Said.{turn_of};
+ghost use Rattle.cases.specs.Said.{case_of};
 
-use coding::{Place, PlaceRead, U8Read, U16Read, U32Read, U64Read, part, put_slice};
+use coding::{Place, UnexpectedEnd, get, part, put_slice, take};
 
-// A record's operation and how many bytes its fields are; or that there is none, or a part of one.
-#[derive(Clone, Copy)]
-pub enum Turn {
-    Record(u8, usize),
-    End,
-    Cut,
+// A record's operation, and how many bytes its fields are.
+#[derive(Clone, Copy, PartialEq, Eq)]
+pub struct Record {
+    pub op: u8,
+    pub len: usize,
 }
 
 // The six numbers of a record.
-#[derive(Clone, Copy)]
+#[derive(Clone, Copy, PartialEq, Eq)]
 pub struct Numbers {
     pub n0: u64,
     pub n1: u64,
@@ -27,40 +26,33 @@ pub struct Numbers {
     pub n5: u64,
 }
 
-// What a record begins with, its first 4 bytes.
-pub fn head(b: &[u8]) -> Turn
-    ensures { turn_of result ≡ head_in b.now }
+// What a record begins with, its first 4 bytes; none where there is no byte.
+pub fn head(b: &[u8]) -> Result<Option<Record>, UnexpectedEnd>
+    ensures { case_of result ≡ head_in b.now }
 {
-    let U8Read::Num(op, p) = coding::get_u8(b, 0) else {
-        return Turn::End;
+    let Ok((op, at)) = get::<u8>(b, 0) else {
+        return Ok(None);
     };
-    let U8Read::Num(high, p) = coding::get_u8(b, p) else {
-        return Turn::Cut;
-    };
-    let U16Read::Num(low, _) = coding::get_u16(b, p) else {
-        return Turn::Cut;
-    };
-    Turn::Record(op, (high as usize) * 65536 + (low as usize))
+    let (high, at) = get::<u8>(b, at)?;
+    let (low, _) = get::<u16>(b, at)?;
+    let len = (high as usize) * 65536 + (low as usize);
+    Ok(Some(Record { op, len }))
 }
 
 // Bytes after their length.
-fn sized(rec: &[u8], at: usize) -> PlaceRead
-    ensures { place_of result ≡ sized_at rec.now at }
+fn sized(rec: &[u8], at: usize) -> Result<(Place, usize), UnexpectedEnd>
+    ensures { read_of result ≡ sized_at rec.now at }
 {
-    let U8Read::Num(high, p) = coding::get_u8(rec, at) else {
-        return PlaceRead::End;
-    };
-    let U16Read::Num(low, p) = coding::get_u16(rec, p) else {
-        return PlaceRead::End;
-    };
-    coding::take(rec, p, (high as u64) * 65536 + (low as u64))
+    let (high, at) = get::<u8>(rec, at)?;
+    let (low, at) = get::<u16>(rec, at)?;
+    take(rec, at, (high as u64) * 65536 + (low as u64))
 }
 
 // Number i of a record.
 fn number(rec: &[u8], i: u8) -> u64
     ensures { result ≡ number_in rec.now i }
 {
-    let U64Read::Num(x, _) = coding::get_u64(rec, 8 * (i as usize)) else {
+    let Ok((x, _)) = get::<u64>(rec, 8 * (i as usize)) else {
         return 0;
     };
     x
@@ -97,15 +89,13 @@ fn place(rec: &[u8], j: u8) -> Place
     ensures { result ≡ part_in rec.now j }
 {
     let mut at = 48;
-    let mut left = j;
-    while 0 < left {
-        let PlaceRead::At(_, next) = sized(rec, at) else {
+    for _ in 0..j {
+        let Ok((_, next)) = sized(rec, at) else {
             return Place { start: 0, len: 0 };
         };
         at = next;
-        left -= 1;
     }
-    let PlaceRead::At(p, _) = sized(rec, at) else {
+    let Ok((p, _)) = sized(rec, at) else {
         return Place { start: 0, len: 0 };
     };
     p
@@ -122,7 +112,7 @@ pub fn bytes(rec: &[u8], j: u8) -> &[u8]
 pub fn byte_at(b: &[u8], i: usize) -> u8
     ensures { result ≡ byte_in b.now i }
 {
-    let U8Read::Num(x, _) = coding::get_u8(b, i) else {
+    let Ok((x, _)) = get::<u8>(b, i) else {
         return 0;
     };
     x
@@ -153,14 +143,12 @@ pub fn words(bytes: &[u8], list: &mut [u32]) -> usize
     ensures { Listed bytes.now list.old result list.new }
 {
     let mut at = 0;
-    let mut n = 0;
-    while n < list.len() {
-        let U32Read::Num(x, next) = coding::get_u32(bytes, at) else {
+    for (n, x) in list.iter_mut().enumerate() {
+        let Ok((word, next)) = get::<u32>(bytes, at) else {
             return n;
         };
-        list[n] = x;
+        *x = word;
         at = next;
-        n += 1;
     }
-    n
+    list.len()
 }

@@ -1,18 +1,18 @@
-use Rattle.std.specs.Prelude.{if◌then◌else◌}
-use Rattle.coding.specs.Places.{part_of}
-use Rattle.cases.specs.Lines.{end_word}
-use Rattle.cases.specs.Said.{turn_of}
-use mathlib.Core.Path.{refl}
+use Rattle.cases.specs.Lines.{all_word, end_word}
+use Rattle.cases.specs.Said.{case_of}
+use mathlib.Core.Path.{◌≡◌, refl}
+use Rattle.std.specs.Prelude.{Option, Some, None, Ok}
+use Rattle.cases.specs.declared.record.Record.{Record}
 use Rattle.cases.proofs.line.ending.Goals as goal
 
-pub returns-in-Record : goal.returns-in-Record
-unfolding part_of turn_of end_word
-returns-in-Record c = rw c.in-Record.is refl
+all_said : (r : Option Record) → all_word ≡ end_word (case_of (Ok r))
+unfolding end_word case_of
+all_said (Some r) = refl
+all_said None = refl
 
-pub returns-in-End : goal.returns-in-End
-unfolding part_of turn_of end_word
-returns-in-End c = rw c.in-End.is refl
+pub returns-in-Ok : goal.returns-in-Ok
+returns-in-Ok c = rw c.in-Ok.is (all_said c.in-Ok.field-0)
 
-pub returns-in-Cut : goal.returns-in-Cut
-unfolding part_of turn_of end_word
-returns-in-Cut c = rw c.in-Cut.is refl
+pub returns-in-Err : goal.returns-in-Err
+unfolding end_word case_of
+returns-in-Err c = rw c.in-Err.is refl

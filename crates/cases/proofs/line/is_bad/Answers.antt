@@ -1,35 +1,28 @@
 use Rattle.cases.specs.Said.{is_bad}
-use mathlib.Core.Path.{refl}
+use mathlib.Core.Path.{◌≡◌, refl}
+use Rattle.std.specs.Prelude.{Ok, false}
+use Rattle.cases.specs.declared.line.Answer.{Answer}
+use Rattle.cases.specs.declared.line.Answer.TheVariants as answer
 use Rattle.cases.proofs.line.is_bad.Goals as goal
+
+not_bad : (x : Answer) → (x ≡ answer.Bad → ⊥) → false ≡ is_bad (Ok x)
+unfolding is_bad
+not_bad answer.Bad h = absurd (h refl)
+not_bad answer.Nothing h = refl
+not_bad answer.Done h = refl
+not_bad (answer.One x) h = refl
+not_bad (answer.Two x y) h = refl
+not_bad (answer.Three x y z) h = refl
+not_bad (answer.Number x) h = refl
+
+pub returns-in_default : goal.returns-in_default
+unfolding is_bad
+returns-in_default c = rw c.in_default.is refl
 
 pub returns-in-Bad : goal.returns-in-Bad
 unfolding is_bad
-returns-in-Bad c = rw c.in-Bad.is refl
+returns-in-Bad c = rw (c.in-Ok.is, c.in-Bad.is) refl
 
-pub returns-in-Nothing : goal.returns-in-Nothing
+pub returns-in_default-matches : goal.returns-in_default-matches
 unfolding is_bad
-returns-in-Nothing c = rw c.in-Nothing.is refl
-
-pub returns-in-No : goal.returns-in-No
-unfolding is_bad
-returns-in-No c = rw c.in-No.is refl
-
-pub returns-in-Done : goal.returns-in-Done
-unfolding is_bad
-returns-in-Done c = rw c.in-Done.is refl
-
-pub returns-in-One : goal.returns-in-One
-unfolding is_bad
-returns-in-One c = rw c.in-One.is refl
-
-pub returns-in-Two : goal.returns-in-Two
-unfolding is_bad
-returns-in-Two c = rw c.in-Two.is refl
-
-pub returns-in-Three : goal.returns-in-Three
-unfolding is_bad
-returns-in-Three c = rw c.in-Three.is refl
-
-pub returns-in-Number : goal.returns-in-Number
-unfolding is_bad
-returns-in-Number c = rw c.in-Number.is refl
+returns-in_default-matches c = rw c.in-Ok.is (not_bad _ c.in_default-matches.not-Bad)

@@ -1,11 +1,11 @@
+use borrow.Author.Rules.{rules}
 use Rattle.cases.specs.Said.{written_of}
-use mathlib.Core.Path.{refl}
 use Rattle.cases.proofs.line.written.Goals as goal
 
-pub returns-in-Len : goal.returns-in-Len
+pub returns-in_err-said : goal.returns-in_err-said
 unfolding written_of
-returns-in-Len c = rw c.in-Len.is refl
+returns-in_err-said c = search rules
 
-pub returns-in-Refused : goal.returns-in-Refused
+pub returns : goal.returns
 unfolding written_of
-returns-in-Refused c = rw c.in-Refused.is refl
+returns c = search rules

@@ -1,20 +1,25 @@
 use Rattle.cases.specs.Records.{head_in}
-use Rattle.cases.specs.Said.{turn_of}
+use Rattle.cases.specs.Said.{case_of}
 use Rattle.coding.proofs.Rules.{steps}
+use Rattle.std.proofs.lemmas.Result.{err_from_is_err_and}
 use Rattle.cases.proofs.record.head.Goals as goal
 
 pub returns-in_default : goal.returns-in_default
-unfolding head_in turn_of
+unfolding head_in case_of
 returns-in_default c = search steps depth 40 fits 4000
 
-pub returns-in_default-get_u8 : goal.returns-in_default-get_u8
-unfolding head_in turn_of
-returns-in_default-get_u8 c = search steps depth 40 fits 4000
+pub returns-in_err-high : goal.returns-in_err-high
+unfolding head_in case_of
+returns-in_err-high c =
+    let p = err_from_is_err_and c.from_residual.result c.from_residual.ensures.1 in
+    rw p.1 (search (steps, c.in_err-high.was) depth 40 fits 4000)
 
-pub returns-in_default-get_u16 : goal.returns-in_default-get_u16
-unfolding head_in turn_of
-returns-in_default-get_u16 c = search steps depth 40 fits 4000
+pub returns-in_err-low : goal.returns-in_err-low
+unfolding head_in case_of
+returns-in_err-low c =
+    let p = err_from_is_err_and c.from_residual-in_err-low.result c.from_residual-in_err-low.ensures.1 in
+    rw p.1 (search (steps, c.in_ok-high.was, c.in_err-low.was) depth 40 fits 4000)
 
 pub returns : goal.returns
-unfolding head_in turn_of
-returns c = search steps depth 40 fits 4000
+unfolding head_in case_of
+returns c = search (steps, c.in_ok-high.was, c.in_ok-low.was) depth 40 fits 4000

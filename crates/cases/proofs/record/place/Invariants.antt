@@ -1,9 +1,8 @@
 use Rattle.cases.specs.Records.{part_after}
+use Prim.Native.Nat.{◌-◌}
 use mathlib.Core.Path.{◌≡◌}
 use Rattle.cases.proofs.record.place.Given as goal
 
-abbrev pub invariant-loop-left : goal.invariant-loop-left
-invariant-loop-left l = part_after l.j l.rec 48 ≡ part_after l.left l.rec l.at
-
-abbrev pub decreases-loop-left : goal.decreases-loop-left
-decreases-loop-left l = l.left
+-- As many parts are left as the loop has turns.
+abbrev pub invariant-loop : goal.invariant-loop
+invariant-loop l = part_after l.j l.rec 48 ≡ part_after (l.j - l.counter) l.rec l.at

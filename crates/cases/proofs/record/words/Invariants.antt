@@ -1,12 +1,9 @@
-use Prim.Native.Nat.{◌-◌, ◌≤◌}
+use Prim.Native.Nat.{◌-◌}
 use mathlib.Core.Path.{◌≡◌}
 use lib.ListN.{length}
 use Rattle.cases.specs.Records.{words_from}
 use Rattle.cases.proofs.record.words.Given as goal
 
--- Each number goes to its place, and the list keeps its length.
+-- Each number goes to its place.
 abbrev pub invariant-loop-n : goal.invariant-loop-n
-invariant-loop-n l = (l.n ≤ length l.list) × ((length l.list ≡ length l.initial.list) × (words_from (length l.initial.list) l.bytes 0 (0, l.initial.list) ≡ words_from (length l.initial.list - l.n) l.bytes l.at (l.n, l.list)))
-
-abbrev pub decreases-loop-n : goal.decreases-loop-n
-decreases-loop-n l = length l.list - l.n
+invariant-loop-n l = words_from (length l.initial.list) l.bytes 0 (0, l.initial.list) ≡ words_from (length l.initial.list - l.n) l.bytes l.at (l.n, l.list)
