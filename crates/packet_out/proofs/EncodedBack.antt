@@ -24,7 +24,7 @@ use Rattle.packet.specs.Header.{outside, header_by}
 use Rattle.packet.specs.TypeBits.{PacketType, type_of, bits_of}
 use Rattle.packet.specs.TypeBits as type
 use Rattle.packet.proofs.Types.{Tables, tables}
-use Rattle.packet_out.specs.Encoding.{Plain, initial, zero_rtt, handshake, retry, short, negotiate, plain_number, bit_if, long_first, short_first, shape_by, shape_bytes, names_bytes, token_bytes, length_bytes, number_field, written_header, header_bytes, header_out, in_header, keep_rules, number_keeps, placeholder}
+use Rattle.packet_out.specs.Encoding.{Plain, initial, zero_rtt, handshake, retry, short, negotiate, plain_number, bit_if, long_first, shape_by, shape_bytes, names_bytes, token_bytes, length_bytes, number_field, written_header, header_bytes, header_out, in_header, keep_rules, number_keeps, placeholder}
 use Rattle.packet_out.specs.Length.{length_field}
 use Rattle.packet_out.specs.Back.{read_as, token_place, Readable, Typed}
 use Rattle.packet_out.proofs.Laws.{Kept, kept, cut_short, length_shape, length_token, fits_seen}
@@ -54,11 +54,9 @@ reads_length n h p q = two_bytes p q ((2 ^ 14 + n) / 256 ^ 1 % 256) ((2 ^ 14 + n
 -- ---- the first byte that is written steers
 
 pub low_small : (c : CutNumber) → number_keeps (some c) ≡ true → length_bits c < 4
-unfolding number_keeps
 low_small c e = omega (arith, cut_short c e)
 
 short_steers : (spin phase : Bool) (low : ℕ) → low < 4 → (fixed_bit + bit_if spin spin_bit + bit_if phase key_phase_bit + low) / 32 ≡ 2 + bit_if spin 1
-unfolding bit_if
 short_steers true true low h = omega (arith, h)
 short_steers true false low h = omega (arith, h)
 short_steers false true low h = omega (arith, h)
@@ -67,11 +65,10 @@ short_steers false false low h = omega (arith, h)
 -- over any bits of types
 module _ (bits : ℕ → PacketType → ℕ) where
   long_steers : (v : ℕ) (t : PacketType) (low : ℕ) → low < 16 → (long_first (bits v t) + low) / 16 ≡ 12 + bits v t
-  unfolding long_first
   long_steers v t low h = omega (arith, h)
 
   pub first_steers : (p : Plain) → number_keeps (plain_number p) ≡ true → Steers bits p (shape_by bits p).first
-  unfolding Steers shape_by plain_number short_first
+  unfolding Steers
   first_steers (initial c v) k = long_steers v type.initial (length_bits c) (omega (arith, low_small c k))
   first_steers (zero_rtt c v) k = long_steers v type.zero_rtt (length_bits c) (omega (arith, low_small c k))
   first_steers (handshake c v) k = long_steers v type.handshake (length_bits c) (omega (arith, low_small c k))
@@ -108,7 +105,7 @@ was_written bits p dst src token bs = go (keep_rules (plain_number p) dst src) r
 
     go : (b : Bool) → keep_rules (plain_number p) dst src ≡ b → ◌≡◌ {A = Answer (List ℕ)} (if b then in_header all all else no 14) (ok bs) → WasWritten bits p dst src token bs
     go true k h =
-        let f = fits_seen all all bs h in
+        let f = fits_seen all all bs (sym h) in
         record { kept = kept (plain_number p) dst src k; short = rw (← f.1) f.0; is = sym f.1; few = few f.0 }
     go false k h = let z : ◌≡◌ {A = ℕ} 0 1 = cc in absurd (omega arith)
 

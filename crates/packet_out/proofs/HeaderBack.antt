@@ -111,12 +111,10 @@ Steers bits (short spin phase c) b = b / 32 ≡ 2 + bit_if spin 1
 Steers bits (negotiate random) b = b ≡ long_header_form + random % long_header_form
 
 pub bit_small : (spin : Bool) → bit_if spin 1 ≤ 1
-unfolding bit_if
 bit_small true = omega arith
 bit_small false = omega arith
 
 spin_bit : (spin : Bool) (x : ℕ) → x ≡ 2 + bit_if spin 1 → eqb (x % 2) 1 ≡ spin
-unfolding bit_if
 spin_bit true x e = eq-eqb (x % 2) 1 (omega (arith, e))
 spin_bit false x e = ne_eqb (x % 2) 1 (λ z. omega (arith, e, z))
 
@@ -144,7 +142,7 @@ module _ (types : ℕ → ℕ → PacketType) (bits : ℕ → PacketType → ℕ
     pub header_back_law : (p : Plain) (b : ℕ) → Steers bits p b → ((shape_by bits p).has_length ≡ true → ReadsAs field n m) → ((shape_by bits p).has_token ≡ true → length token < 2 ^ 62) → Kept (plain_number p) dst src → Typed p dst src → Readable p dst local versions grease
         → outside (b ∷ up_to bits p dst src token field past) local versions ≡ false
         → read.header_by types (b ∷ up_to bits p dst src token field past) local versions grease ≡ read_as bits p dst src token n m
-    unfolding Steers Readable up_to shape_by read_as kind_read version_read src_read token_place end_read token_bytes length_bytes tail_at
+    unfolding Steers Readable up_to read_as kind_read version_read src_read token_place end_read token_bytes length_bytes tail_at
     header_back_law (initial c v) b e r small k y d o =
         let w : List ℕ = b ∷ names_bytes (some v) dst src in
         let x : length (var_bytes (length token) ++ token) ≡ var_size (length token) + length token = simp (length-append, length_var) in

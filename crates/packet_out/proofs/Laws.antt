@@ -10,12 +10,10 @@ use lib.ListN.{length, replicate, length-append}
 use lib.Dec.{leb}
 use borrow.Author.Tests.{le-leb, lt-leb, leb-true, leb-false, ltb-true, lt-ltb, le-ltb}
 use Rattle.coding.specs.Words.{Answer, no, ok}
-use Rattle.coding.specs.Refusals.{number_of}
 use Rattle.coding.specs.Bytes.{splice}
 use Rattle.coding.specs.Varint.{var_size}
-use Rattle.coding.specs.Said.{sized_of}
-use Rattle.coding.specs.declared.varint.Sized.{Sized}
-use Rattle.coding.specs.declared.varint.Sized.TheVariants as sized
+use Rattle.coding.specs.Said.{answer_of}
+use Rattle.std.specs.Prelude.{Result, Ok, Err, is_ok}
 use Rattle.coding.specs.Writing.{Written}
 use Rattle.coding.specs.declared.refusal.Refusal.{Refusal}
 use Rattle.coding.proofs.Laws.{length_bytes_be, length_var}
@@ -25,9 +23,6 @@ use Rattle.shared.specs.Cid.{cid_of, long_bytes}
 use Rattle.shared.proofs.Laws.{length_cid, length_long}
 use Rattle.shared.proofs.Back.{cid_same}
 use Rattle.number.specs.Cutting.{is_cut, cut_tag}
-use Rattle.number.specs.Said.{tag_of}
-use Rattle.number.specs.declared.Tagged.{Tagged}
-use Rattle.number.specs.declared.Tagged.TheVariants as tagged
 use Rattle.number.proofs.Windows.{cut_rule}
 use Rattle.packet.specs.TypeBits.{bits_of}
 use Rattle.protect.specs.Tests.{number_bytes, number_fits, least_header, header_tests}
@@ -35,30 +30,21 @@ use Rattle.packet_out.specs.Encoding.{Plain, Shape, names_bytes, token_bytes, le
 use Rattle.packet_out.specs.Before.{roomy, header_before, length_fits}
 use Rattle.packet_out.specs.Length.{length_field, length_into, length_set}
 
--- ---- a number's rule, by what was seen of its tag
+-- ---- a number's rule, by its tag
 
-module _ (r : Tagged) (c : CutNumber) (e : tag_of r ≡ cut_tag c) where
-  pub tag_kept : (t : ℕ) → r ≡ tagged.Tag t → (is_cut c ≡ true) × (t ≡ c.0 - 1)
-  unfolding tag_of cut_tag
-  tag_kept t q = go (is_cut c) refl (rw q at e)
-    where
-      go : (b : Bool) → is_cut c ≡ b → ok t ≡ (if b then ok (c.0 - 1) else no 14) → (is_cut c ≡ true) × (t ≡ c.0 - 1)
-      go true s h = (s, cc)
-      go false s h = let z : ◌≡◌ {A = ℕ} 0 1 = cc in absurd (omega arith)
+pub tag_is : (r : Result ℕ Refusal) (c : CutNumber) → answer_of r ≡ cut_tag c → is_ok r ≡ is_cut c
+unfolding answer_of cut_tag
+tag_is r c = go r (is_cut c)
+  where
+    go : (r : Result ℕ Refusal) (b : Bool) → answer_of r ≡ (if b then ok (c.0 - 1) else no 14) → is_ok r ≡ b
+    go (Ok t) true h = refl
+    go (Ok t) false h = let z : ◌≡◌ {A = ℕ} 0 1 = cc in absurd (omega arith)
+    go (Err why) true h = let z : ◌≡◌ {A = ℕ} 0 1 = cc in absurd (omega arith)
+    go (Err why) false h = refl
 
-  pub tag_not : (why : Refusal) → r ≡ tagged.Refused why → is_cut c ≡ false
-  unfolding tag_of cut_tag
-  tag_not why q = go (is_cut c) refl (rw q at e)
-    where
-      go : (b : Bool) → is_cut c ≡ b → no (number_of why) ≡ (if b then ok (c.0 - 1) else no 14) → is_cut c ≡ false
-      go true s h = let z : ◌≡◌ {A = ℕ} 0 1 = cc in absurd (omega arith)
-      go false s h = s
-
-  pub tag_never : is_cut c ≡ true → (why : Refusal) → r ≡ tagged.Refused why → ⊥
-  tag_never k why q =
-      let f = tag_not why q in
-      let z : ◌≡◌ {A = ℕ} 0 1 = cc in
-      omega arith
+pub tag_kept : (t : ℕ) (c : CutNumber) → ok t ≡ cut_tag c → is_cut c ≡ true → t ≡ c.0 - 1
+unfolding cut_tag
+tag_kept t c e k = let h = rw k at e in cc
 
 -- ---- the rules that are kept
 
@@ -119,12 +105,11 @@ cut_short c e = let w = (cut_rule c e).window in (w.low, w.high)
 
 -- a number's length, by its kind
 pub length_some : (number : Option CutNumber) → length (number_field number) ≡ number_bytes (number_len_in number)
-unfolding number_field number_len_in
+unfolding number_field
 length_some none = refl
 length_some (some c) = length_number c
 
 pub keeps_few : (number : Option CutNumber) → number_keeps number ≡ true → number_bytes (number_len_in number) ≤ 4
-unfolding number_keeps number_len_in
 keeps_few none e = omega arith
 keeps_few (some c) e = (cut_short c e).1
 
@@ -159,21 +144,21 @@ module _ {A : Type 0} (bs : List ℕ) (a : A) where
   unfolding in_header
   header_long h = simp (lt-leb _ _ h)
 
-  pub fits_seen : (b : A) → in_header bs a ≡ ok b → (length bs ≤ 65527) × (a ≡ b)
+  pub fits_seen : (b : A) → ok b ≡ in_header bs a → (length bs ≤ 65527) × (a ≡ b)
   unfolding in_header
   fits_seen b = go (leb (length bs) 65527) refl
     where
-      go : (t : Bool) → leb (length bs) 65527 ≡ t → ◌≡◌ {A = Answer A} (if t then ok a else no 14) (ok b) → (length bs ≤ 65527) × (a ≡ b)
+      go : (t : Bool) → leb (length bs) 65527 ≡ t → ◌≡◌ {A = Answer A} (ok b) (if t then ok a else no 14) → (length bs ≤ 65527) × (a ≡ b)
       go true e h = (leb-true _ _ e, cc)
       go false e h = let z : ◌≡◌ {A = ℕ} 0 1 = cc in absurd (omega arith)
 
-  pub long_seen : (k : ℕ) → in_header bs a ≡ no k → 65527 < length bs
+  pub long_seen : (k : ℕ) → no k ≡ in_header bs a → (65527 < length bs) × (k ≡ 14)
   unfolding in_header
   long_seen k = go (leb (length bs) 65527) refl
     where
-      go : (t : Bool) → leb (length bs) 65527 ≡ t → ◌≡◌ {A = Answer A} (if t then ok a else no 14) (no k) → 65527 < length bs
+      go : (t : Bool) → leb (length bs) 65527 ≡ t → ◌≡◌ {A = Answer A} (no k) (if t then ok a else no 14) → (65527 < length bs) × (k ≡ 14)
       go true e h = let z : ◌≡◌ {A = ℕ} 0 1 = cc in absurd (omega arith)
-      go false e h = leb-false _ _ e
+      go false e h = (leb-false _ _ e, cc)
 
 -- ---- the bytes of a header, by what it has without its token
 
@@ -214,15 +199,6 @@ module _ (field : List ℕ) (p : Plain) (dst src : ConnectionId) (token : List �
     -- the Length's two bytes do not count otherwise
     pub out_length : length field ≡ 2 → length (shape_bytes field shape number dst src token) ≡ length (shape_bytes placeholder shape number dst src token)
     out_length e = length_fields field placeholder shape number dst src token (e ∙ sym (length_bytes_be 2 0))
-
--- the size that was seen
-pub size_seen : (r : Sized) (g : Answer ℕ) (n : ℕ) → sized_of r ≡ g → r ≡ sized.Bytes n → g ≡ ok n
-unfolding sized_of
-size_seen r g n e q = sym (rw q at e)
-
-pub size_refused : (r : Sized) (g : Answer ℕ) (why : Refusal) → sized_of r ≡ g → r ≡ sized.Refused why → g ≡ no (number_of why)
-unfolding sized_of
-size_refused r g why e q = sym (rw q at e)
 
 -- what encode says besides the length
 module _ (p : Plain) {w : Answer (List ℕ)} {old new : List ℕ} where

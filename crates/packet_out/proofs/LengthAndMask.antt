@@ -1,6 +1,5 @@
 -- A header with a number on its way out: the Length step sets its Length and nothing else, the mask step leaves the bits that steer;
 -- whatever the bits of its type.
-use Rattle.std.specs.Prelude.{if◌then◌else◌}
 use Prim.Native.Nat.{ℕ, ◌+◌, ◌-◌, ◌*◌, ◌/◌, ◌%◌, ◌^◌, ◌≤◌, ◌<◌}
 use mathlib.Core.Path.{◌≡◌, refl, sym, ap, ◌∙◌}
 use mathlib.Core.List.{List, ◌∷◌, ◌++◌, append_assoc}
@@ -134,7 +133,7 @@ five b m = let z : m % 32 / 32 ≡ 0 = omega arith in xor_shr b (m % 32) 5 ∙ r
 
 pub masked_steers : (bits : ℕ → PacketType → ℕ) (p : Plain) (c : CutNumber) (m : ℕ) → plain_number p ≡ some c → Steers bits p (shape_by bits p).first
     → Steers bits p (bit_xor (shape_by bits p).first (first_mask (shape_by bits p).has_length m))
-unfolding Steers shape_by plain_number
+unfolding Steers
 masked_steers bits (initial c v) d m is e = four (long_first (bits v type.initial) + length_bits c) m ∙ e
 masked_steers bits (zero_rtt c v) d m is e = four (long_first (bits v type.zero_rtt) + length_bits c) m ∙ e
 masked_steers bits (handshake c v) d m is e = four (long_first (bits v type.handshake) + length_bits c) m ∙ e
@@ -150,12 +149,10 @@ pub record First (bits : ℕ → PacketType → ℕ) (p : Plain) (c : CutNumber)
   pub says : opened_by (shape_by bits p).has_length (shape_by bits p).first c ≡ opened_as p
 
 bit_is : (b : Bool) (x : ℕ) → bit_if b x ≡ bit_if b 1 * x
-unfolding bit_if
 bit_is true x = omega arith
 bit_is false x = omega arith
 
 bit_one : (b : Bool) → eqb (bit_if b 1) 1 ≡ b
-unfolding bit_if
 bit_one true = refl
 bit_one false = refl
 
@@ -165,22 +162,20 @@ two_clear n k h = and_high n 2 k ∙ rw h (omega arith)
 
 module _ (bits : ℕ → PacketType → ℕ) (c : CutNumber) (k : is_cut c ≡ true) where
   long_len : (v : ℕ) (t : PacketType) → tag_length (long_first (bits v t) + length_bits c) ≡ c.0
-  unfolding long_first
   long_len v t = omega (arith, cut_short c k)
 
   long_form : (two : (v : ℕ) (t : PacketType) → bits v t < 4) (v : ℕ) (t : PacketType) → (long_first (bits v t) + length_bits c) / long_header_form ≡ 1
-  unfolding long_first
   long_form two v t = omega (arith, cut_short c k, two v t)
 
   long_says : (v : ℕ) (t : PacketType) → opened_by true (long_first (bits v t) + length_bits c) c ≡ protect.long c.0 c.1 true
-  unfolding opened_by long_first
+  unfolding opened_by
   long_says v t =
       let first : ℕ = long_header_form + fixed_bit + bits v t * 16 + length_bits c in
       let z : first / 4 % 4 ≡ 0 = omega (arith, cut_short c k) in
       rw (eq-eqb (bit_and first long_reserved_bits) 0 (two_clear first 2 z))
 
   short_first_law : (spin phase : Bool) → First bits (short spin phase c) c
-  unfolding shape_by short_first opened_by opened_as
+  unfolding opened_by opened_as
   short_first_law spin phase =
       let s : bit_if spin spin_bit ≡ bit_if spin 1 * spin_bit = bit_is spin spin_bit in
       let f : bit_if phase key_phase_bit ≡ bit_if phase 1 * key_phase_bit = bit_is phase key_phase_bit in
@@ -197,7 +192,7 @@ module _ (bits : ℕ → PacketType → ℕ) (c : CutNumber) (k : is_cut c ≡ t
       }
 
 pub first_written : (bits : ℕ → PacketType → ℕ) → ((v : ℕ) (t : PacketType) → bits v t < 4) → (p : Plain) (c : CutNumber) → plain_number p ≡ some c → is_cut c ≡ true → First bits p c
-unfolding shape_by plain_number opened_as
+unfolding opened_as
 first_written bits two (initial c v) d is k =
     let e : c ≡ d = cc in
     rw e (record { form = long_form bits d k two v type.initial; len = long_len bits d k v type.initial; says = long_says bits d k v type.initial })

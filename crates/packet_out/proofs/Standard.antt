@@ -14,12 +14,10 @@ use Rattle.packet_out.specs.Encoding.{plain_number, long_first, long_shape, shap
 use Rattle.packet_out.specs.Said.{written_long}
 
 pub long_number : (ty : LongType) (c : CutNumber) (v : ℕ) → plain_number (written_long ty c v) ≡ some c
-unfolding plain_number written_long
 long_number ty.Handshake c v = refl
 long_number ty.ZeroRtt c v = refl
 
 pub long_shape_law : (ty : LongType) (c : CutNumber) (v : ℕ)
     → shape_by bits_of (written_long ty c v) ≡ long_shape (long_first (bits_of v (long_type_of (kind.Standard ty))) + length_bits c) v false true
-unfolding shape_by written_long long_type_of
 long_shape_law ty.Handshake c v = refl
 long_shape_law ty.ZeroRtt c v = refl

@@ -32,7 +32,7 @@ use Rattle.protect.specs.Tests.{in_size, header_tests}
 use Rattle.protect.specs.Steps.{opened, finish_at, finished, mask_at, read_off, payload_place}
 use Rattle.protect.proofs.Back.{ThereAndBack, there_and_back, number_back, length_applied}
 use Rattle.protect.proofs.Cases.{mask_ok, mask_none}
-use Rattle.packet_out.specs.Encoding.{Plain, initial, zero_rtt, handshake, retry, short, negotiate, plain_number, shape_by, length_bytes, number_field, written_header, header_bytes, header_out, number_keeps, placeholder}
+use Rattle.packet_out.specs.Encoding.{Plain, initial, zero_rtt, handshake, retry, short, negotiate, plain_number, shape_by, length_bytes, number_field, written_header, header_bytes, header_out, placeholder}
 use Rattle.packet_out.specs.Length.{length_field, length_set}
 use Rattle.packet_out.specs.Back.{read_as, kind_read, token_place, end_read, Readable, Typed, opened_as}
 use Rattle.packet_out.proofs.Laws.{length_shape, set_none}
@@ -48,7 +48,7 @@ unfolding outside
 inside s local versions a b c = rw (le-ltb 65527 (length s) a, le-ltb 20 local b, le-ltb 16 (length versions) c)
 
 length_read : (bits : ℕ → PacketType → ℕ) (p : Plain) (token : Place) (n : ℕ) → length_in (ok (kind_read p token n)) ≡ (if (shape_by bits p).has_length then some n else none)
-unfolding length_in kind_read shape_by
+unfolding kind_read
 length_read bits (initial c v) token n = refl
 length_read bits (zero_rtt c v) token n = refl
 length_read bits (handshake c v) token n = refl
@@ -98,7 +98,6 @@ module _ (types : ℕ → ℕ → PacketType) (bits : ℕ → PacketType → ℕ
     (big : length (header_bytes bits p dst src token) + length payload ≤ 65527) (fits : (shape_by bits p).has_length ≡ true → c.0 + length payload < 2 ^ 14)
     (same : length sealed ≡ length payload) (reach : 20 ≤ c.0 + length payload) where
   cut : is_cut c ≡ true
-  unfolding number_keeps
   cut = rw is at w.kept.cut
 
   abbrev n : ℕ
@@ -240,7 +239,6 @@ pub record Stays (types : ℕ → ℕ → PacketType) (bits : ℕ → PacketType
   pub finishes : (long : Bool) → finish_at false long (bs ++ rest) (end_read bits p dst src token 1) mask ≡ ok (bs ++ rest)
 
 no_length : (bits : ℕ → PacketType → ℕ) (p : Plain) → plain_number p ≡ none → (shape_by bits p).has_length ≡ false
-unfolding plain_number shape_by
 no_length bits (initial c v) e = let z : ◌≡◌ {A = ℕ} 0 1 = cc in absurd (omega arith)
 no_length bits (zero_rtt c v) e = let z : ◌≡◌ {A = ℕ} 0 1 = cc in absurd (omega arith)
 no_length bits (handshake c v) e = let z : ◌≡◌ {A = ℕ} 0 1 = cc in absurd (omega arith)

@@ -25,7 +25,7 @@ pub data Plain : Type 0 where
   negotiate : ℕ → Plain
 
 -- the packet number, where there is one
-unfoldable pub plain_number : Plain → Option CutNumber
+abbrev pub plain_number : Plain → Option CutNumber
 plain_number (initial c v) = some c
 plain_number (zero_rtt c v) = some c
 plain_number (handshake c v) = some c
@@ -34,15 +34,15 @@ plain_number (short spin phase c) = some c
 plain_number (negotiate bits) = none
 
 -- a bit of the first byte
-unfoldable pub bit_if : Bool → ℕ → ℕ
+abbrev pub bit_if : Bool → ℕ → ℕ
 bit_if b x = if b then x else 0
 
 -- 17.2: the form bit and the fixed bit, the type in 0x30; the reserved bits are 0, and the number's length follows
-unfoldable pub long_first : ℕ → ℕ
+abbrev pub long_first : ℕ → ℕ
 long_first bits = long_header_form + fixed_bit + bits * 16
 
 -- 17.3.1: the fixed bit, the spin bit, the key phase; the reserved bits are 0, and the number's length follows
-unfoldable pub short_first : Bool → Bool → ℕ
+abbrev pub short_first : Bool → Bool → ℕ
 short_first spin phase = fixed_bit + bit_if spin spin_bit + bit_if phase key_phase_bit
 
 -- what stands around the connection ids: the first byte; the version, which a short header lacks; whether there is a token,
@@ -60,7 +60,7 @@ abbrev pub short_shape : ℕ → Shape
 short_shape first = record { first = first; version = none; has_token = false; has_length = false }
 
 -- by the kind, for any bits of the types by the version
-unfoldable pub shape_by : (ℕ → PacketType → ℕ) → Plain → Shape
+abbrev pub shape_by : (ℕ → PacketType → ℕ) → Plain → Shape
 shape_by bits (initial c v) = long_shape (long_first (bits v type.initial) + length_bits c) v true true
 shape_by bits (zero_rtt c v) = long_shape (long_first (bits v type.zero_rtt) + length_bits c) v false true
 shape_by bits (handshake c v) = long_shape (long_first (bits v type.handshake) + length_bits c) v false true
@@ -108,7 +108,7 @@ header_bytes bits = written_header bits placeholder
 -- ---- what encode writes and answers
 
 -- a number's rule, where there is one
-unfoldable pub number_keeps : Option CutNumber → Bool
+abbrev pub number_keeps : Option CutNumber → Bool
 number_keeps none = true
 number_keeps (some c) = is_cut c
 
@@ -131,7 +131,7 @@ pub record Partial : Type 0 where
   pub number : Option ℕ
   pub has_length : Bool
 
-unfoldable pub number_len_in : Option CutNumber → Option ℕ
+abbrev pub number_len_in : Option CutNumber → Option ℕ
 number_len_in none = none
 number_len_in (some c) = some c.0
 

@@ -2,15 +2,14 @@
 ghost use Rattle.std.specs.Prelude.{◌≡◌, true, ◌≤◌};
 ghost use Rattle.number.specs.Cutting.{is_cut, length_bits};
 ghost use Rattle.packet.specs.TypeBits.{bits_of};
-ghost use Rattle.packet.specs.Said.{long_type_of};
+ghost use Rattle.packet.specs.Said.{option_of, long_type_of};
 ghost use Rattle.packet_out.specs.Encoding.{bit_if, long_first, short_first, plain_number, number_keeps, long_shape, shape_by};
-ghost use Rattle.packet_out.specs.Said.{plain_of, cut_of, shape_of};
+ghost use Rattle.packet_out.specs.Said.{plain_of, shape_of};
 
-use number::Tagged;
 use packet::{LongHeaderType, LongType};
 use shared::{CutNumber, FIXED_BIT, KEY_PHASE_BIT, LONG_HEADER_FORM, SPIN_BIT};
 
-#[derive(Clone, Copy)]
+#[derive(Clone, Copy, PartialEq, Eq)]
 pub enum Header {
     Initial {
         number: CutNumber,
@@ -34,48 +33,25 @@ pub enum Header {
     },
 }
 
-// A header's packet number, where it has one.
-#[derive(Clone, Copy)]
-pub enum HeaderNumber {
-    Cut(CutNumber),
-    Nothing,
-}
-
-// A long header's version; a short header has none.
-#[derive(Clone, Copy)]
-pub enum Version {
-    Long(u32),
-    Short,
-}
-
-// What stands around the connection ids, whatever the kind: the first byte, the version, and whether there is a token, and
-// a Length.
-#[derive(Clone, Copy)]
+// What stands around the connection ids, whatever the kind: the first byte, a long header's version, and whether there is a
+// token, and a Length.
+#[derive(Clone, Copy, PartialEq, Eq)]
 pub struct Form {
     pub first: u8,
-    pub version: Version,
+    pub version: Option<u32>,
     pub has_token: bool,
     pub has_length: bool,
 }
 
 impl Header {
-    pub fn number(self) -> HeaderNumber
-        ensures { cut_of result ≡ plain_number (plain_of self) }
+    pub fn number(self) -> Option<CutNumber>
+        ensures { option_of result ≡ plain_number (plain_of self) }
     {
         match self {
-            Header::Initial { number, version: _ } => HeaderNumber::Cut(number),
-            Header::Long {
-                ty: _,
-                number,
-                version: _,
-            } => HeaderNumber::Cut(number),
-            Header::Retry { version: _ } => HeaderNumber::Nothing,
-            Header::Short {
-                spin: _,
-                key_phase: _,
-                number,
-            } => HeaderNumber::Cut(number),
-            Header::VersionNegotiate { random: _ } => HeaderNumber::Nothing,
+            Header::Initial { number, .. }
+            | Header::Long { number, .. }
+            | Header::Short { number, .. } => Some(number),
+            Header::Retry { .. } | Header::VersionNegotiate { .. } => None,
         }
     }
 }
@@ -84,24 +60,7 @@ impl Header {
 pub(crate) fn has_length(header: Header) -> bool
     ensures { result ≡ (shape_by bits_of (plain_of header)).has_length }
 {
-    match header {
-        Header::Initial {
-            number: _,
-            version: _,
-        } => true,
-        Header::Long {
-            ty: _,
-            number: _,
-            version: _,
-        } => true,
-        Header::Retry { version: _ } => false,
-        Header::Short {
-            spin: _,
-            key_phase: _,
-            number: _,
-        } => false,
-        Header::VersionNegotiate { random: _ } => false,
-    }
+    matches!(header, Header::Initial { .. } | Header::Long { .. })
 }
 
 // A long header's first byte, its four low bits clear.
@@ -129,10 +88,7 @@ fn low_bits(c: CutNumber) -> u8
     requires { is_cut c ≡ true }
     ensures { (result ≡ length_bits c) × (result ≤ 3) }
 {
-    let Tagged::Tag(tag) = number::tag(c) else {
-        return 0;
-    };
-    tag
+    number::tag(c).unwrap()
 }
 
 // A long header's form.
@@ -141,7 +97,7 @@ fn long_form(first: u8, version: u32, has_token: bool, has_length: bool) -> Form
 {
     Form {
         first,
-        version: Version::Long(version),
+        version: Some(version),
         has_token,
         has_length,
     }
@@ -175,7 +131,7 @@ pub(crate) fn form_of(header: Header) -> Form
             number,
         } => Form {
             first: short_first(spin, key_phase) + low_bits(number),
-            version: Version::Short,
+            version: None,
             has_token: false,
             has_length: false,
         },

@@ -1,4 +1,3 @@
-use Rattle.std.specs.Prelude.{if◌then◌else◌}
 use Rattle.packet_out.proofs.Laws.{length_small}
 use Rattle.packet_out.specs.Before.{field_for}
 use mathlib.Core.Path.{◌≡◌}

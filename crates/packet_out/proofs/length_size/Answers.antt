@@ -1,4 +1,3 @@
-use Rattle.std.specs.Prelude.{if◌then◌else◌}
 use native.Mathlib.Omega.{arith}
 use Rattle.coding.proofs.Laws.{length_bytes_be}
 use Rattle.packet_out.specs.Encoding.{length_bytes}

@@ -1,4 +1,3 @@
-use Rattle.std.specs.Prelude.{if◌then◌else◌}
 use mathlib.Core.Path.{◌≡◌}
 use mathlib.Core.Bool.{true, false}
 use Rattle.coding.proofs.Writes.{put_none}
@@ -15,4 +14,4 @@ pub returns : goal.returns
 unfolding length_bytes
 returns c =
     let e : c.args.has_length ≡ true = c.if-not-has_length.false in
-    rw e c.put_u16.ensures
+    rw e c.put.ensures

@@ -3,4 +3,4 @@ use Rattle.packet_out.proofs.put_long.Goals as goal
 
 pub returns : goal.returns
 returns c =
-    long_run c.args.cid.now c.requires.0 c.requires.1 c.put_u8-next.ensures c.put_slice.ensures
+    long_run c.args.cid.now c.requires.0 c.requires.1 c.put-next.ensures c.put_slice.ensures

@@ -2,28 +2,24 @@ use Rattle.packet_out.proofs.WholePut.{dst_room, src_room, names_run}
 use Rattle.shared.specs.Cid.{cid_of}
 use Rattle.shared.proofs.Back.{cid_same}
 use Rattle.packet_out.specs.Encoding.{names_bytes}
-use Rattle.packet_out.specs.Said.{version_of}
 use Rattle.packet_out.proofs.put_names.Goals as goal
 
 pub returns-in_default : goal.returns-in_default
-unfolding version_of names_bytes
+unfolding names_bytes
 returns-in_default c =
     rw (c.in_default.is, cid_same c.args.dst_cid.now) c.put_slice.ensures
 
 pub put_long-from-requires : goal.put_long-from-requires
-unfolding version_of
 put_long-from-requires c =
-    let q = c.in-Long.is in
-    (c.requires.0.0, dst_room _ (cid_of c.args.dst_cid.now) (cid_of c.args.src_cid.now) (rw q at c.requires.1) c.put_u32-to.ensures)
+    let q = c.in-Some.is in
+    (c.requires.0.0, dst_room _ (cid_of c.args.dst_cid.now) (cid_of c.args.src_cid.now) (rw q at c.requires.1) c.put-to.ensures)
 
 pub put_long-requires : goal.put_long-requires
-unfolding version_of
 put_long-requires c =
-    let q = c.in-Long.is in
-    (c.requires.0.1, src_room _ (cid_of c.args.dst_cid.now) (cid_of c.args.src_cid.now) (rw q at c.requires.1) c.put_u32-to.ensures c.put_long-from.ensures)
+    let q = c.in-Some.is in
+    (c.requires.0.1, src_room _ (cid_of c.args.dst_cid.now) (cid_of c.args.src_cid.now) (rw q at c.requires.1) c.put-to.ensures c.put_long-from.ensures)
 
 pub returns : goal.returns
-unfolding version_of
 returns c =
-    let q = c.in-Long.is in
-    rw q (names_run _ (cid_of c.args.dst_cid.now) (cid_of c.args.src_cid.now) (rw q at c.requires.1) c.put_u32-to.ensures c.put_long-from.ensures c.put_long.ensures)
+    let q = c.in-Some.is in
+    rw q (names_run _ (cid_of c.args.dst_cid.now) (cid_of c.args.src_cid.now) (rw q at c.requires.1) c.put-to.ensures c.put_long-from.ensures c.put_long.ensures)

@@ -1,11 +1,14 @@
 use native.Mathlib.Omega.{arith}
-use Rattle.packet_out.proofs.Laws.{tag_kept, tag_never, cut_short}
+use mathlib.Core.Path.{◌∙◌}
+use Rattle.coding.specs.Said.{answer_of}
+use Rattle.packet_out.proofs.Laws.{tag_is, tag_kept, cut_short}
 use Rattle.packet_out.proofs.header.low_bits.Goals as goal
 
-pub returns-in_default : goal.returns-in_default
-returns-in_default c = absurd (tag_never _ _ c.tag.ensures c.requires _ c.in_default.is)
+pub unwrap-requires : goal.unwrap-requires
+unwrap-requires c = tag_is _ _ c.tag.ensures ∙ c.requires
 
 pub returns : goal.returns
+unfolding answer_of
 returns c =
-    let t = (tag_kept _ _ c.tag.ensures _ c.in-Tag.is).1 in
+    let t = tag_kept _ _ (rw c.unwrap.ensures at c.tag.ensures) c.requires in
     (t, omega (arith, t, cut_short _ c.requires))
