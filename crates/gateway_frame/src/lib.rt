@@ -9,14 +9,15 @@ ghost use Rattle.frame.specs.Said.{frame_said, type_seen, step_of};
 ghost use Rattle.gateway_frame.specs.Frames.{frame_row_of, found_record, frame_refused, frame_record, frame_for, is_padding, padding_record};
 
 use coding::MAX_DATAGRAM;
-use frame::{Frame, FrameRead, FrameStep, TypeRead};
+use frame::{FrameRead, InvalidFrame};
 pub use records::{FrameAnswer, FrameValue, Span};
 use shared::FrameType;
 
 // A frame that was read.
-fn found(start: usize, ty: FrameType, frame: Frame, next: usize) -> FrameAnswer
-    ensures { result ≡ found_record start ty.0 (frame_row_of (frame_said frame)) next }
+fn found(start: usize, read: FrameRead) -> FrameAnswer
+    ensures { result ≡ found_record start read.ty.0 (frame_row_of (frame_said read.frame)) read.next }
 {
+    let FrameRead { frame, ty, next } = read;
     let row = rows::row_of(frame);
     let [value0, value1, value2, value3, value4, value5] = row.values;
     FrameAnswer {
@@ -37,7 +38,7 @@ fn found(start: usize, ty: FrameType, frame: Frame, next: usize) -> FrameAnswer
 }
 
 // No frame: the end of the payload, with refusal 0, or a refusal.
-fn no_frame(refusal: u8, start: usize, ty: TypeRead) -> FrameAnswer
+fn no_frame(refusal: u8, start: usize, ty: Option<FrameType>) -> FrameAnswer
     ensures { result ≡ frame_refused refusal start (type_seen ty) }
 {
     let untyped = FrameAnswer {
@@ -46,26 +47,24 @@ fn no_frame(refusal: u8, start: usize, ty: TypeRead) -> FrameAnswer
         ..FrameAnswer::NOTHING
     };
     match ty {
-        TypeRead::Type(t) => FrameAnswer {
+        Some(t) => FrameAnswer {
             has_type: 1,
             frame_type: t.0,
             ..untyped
         },
-        TypeRead::Nothing => untyped,
+        None => untyped,
     }
 }
 
 // What a step of the walk at a place says.
 #[tactic(auto, unfolding(crate::specs::Frames::frame_record, frame::specs::Said::step_of, frame::specs::Said::said_of))]
-fn frame_record(at: usize, x: FrameStep) -> FrameAnswer
-    ensures { result ≡ frame_record at (step_of x) }
+fn frame_record(at: usize, step: Option<Result<FrameRead, InvalidFrame>>) -> FrameAnswer
+    ensures { result ≡ frame_record at (step_of step) }
 {
-    match x {
-        FrameStep::End => no_frame(0, at, TypeRead::Nothing),
-        FrameStep::Read(read) => match read {
-            FrameRead::Got { frame, ty, next } => found(at, ty, frame, next),
-            FrameRead::Refused { why, start, ty } => no_frame(why.number(), start, ty),
-        },
+    match step {
+        None => no_frame(0, at, None),
+        Some(Ok(read)) => found(at, read),
+        Some(Err(x)) => no_frame(x.why.number(), x.start, x.ty),
     }
 }
 

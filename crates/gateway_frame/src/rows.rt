@@ -6,7 +6,7 @@ ghost use Rattle.gateway_frame.specs.Frames.{value_of, frame_row_with, frame_row
 
 use crate::records::{FrameValue, Span};
 use coding::Place;
-use frame::{Ack, AckEcn, Close, Frame, NewConnectionId, Stream, TypeRead};
+use frame::{Ack, Close, Frame, NewConnectionId, Stream};
 use shared::FrameType;
 
 // The first type of a STREAM frame and of a DATAGRAM frame.
@@ -46,12 +46,14 @@ impl From<Place> for FrameValue {
     }
 }
 
-fn type_value(ty: TypeRead) -> FrameValue
-    ensures { result ≡ value_of (type_value ty) }
-{
-    match ty {
-        TypeRead::Type(t) => FrameValue::from(t.0),
-        TypeRead::Nothing => FrameValue::NOTHING,
+impl From<Option<FrameType>> for FrameValue {
+    ghost from_gives = { λ ty v. v ≡ value_of (type_value ty) };
+
+    fn from(ty: Option<FrameType>) -> FrameValue {
+        match ty {
+            Some(t) => t.0.into(),
+            None => FrameValue::NOTHING,
+        }
     }
 }
 
@@ -72,8 +74,8 @@ fn ack_row(x: Ack) -> FrameRow
     let delay = x.delay.into();
     let blocks = x.additional.into();
     match x.ecn {
-        AckEcn::Nothing => row(FrameType::ACK.0, &[largest, delay, blocks]),
-        AckEcn::Counts(n) => row(
+        None => row(FrameType::ACK.0, &[largest, delay, blocks]),
+        Some(n) => row(
             FrameType::ACK.0,
             &[
                 largest,
@@ -124,7 +126,7 @@ fn close_row(x: Close) -> FrameRow
             FrameType::CONNECTION_CLOSE.0,
             &[
                 c.error_code.into(),
-                type_value(c.frame_type),
+                c.frame_type.into(),
                 c.reason.into(),
             ],
         ),
@@ -161,7 +163,7 @@ pub(crate) fn row_of(frame: Frame) -> FrameRow
         ),
         Frame::MaxStreams { dir, count } => row(
             FrameType::MAX_STREAMS_BIDI.0,
-            &[dir.bit().into(), count.into()],
+            &[u64::from(dir).into(), count.into()],
         ),
         Frame::DataBlocked { offset } => row(FrameType::DATA_BLOCKED.0, &[offset.into()]),
         Frame::StreamDataBlocked { id, offset } => row(
@@ -170,7 +172,7 @@ pub(crate) fn row_of(frame: Frame) -> FrameRow
         ),
         Frame::StreamsBlocked { dir, limit } => row(
             FrameType::STREAMS_BLOCKED_BIDI.0,
-            &[dir.bit().into(), limit.into()],
+            &[u64::from(dir).into(), limit.into()],
         ),
         Frame::NewConnectionId(x) => new_cid_row(x),
         Frame::RetireConnectionId { sequence } => row(
