@@ -1,24 +1,21 @@
 -- Only one answer, and only one content of a lent buffer, meets the contract of each public function.
-use mathlib.Core.Path.{◌∙◌, sym}
+use mathlib.Core.Path.{◌≡◌, ◌∙◌, sym}
 use mathlib.Core.List.{List}
 use Prim.Native.Nat.{ℕ}
+use mir.Syntax.{Dict}
+use denote.Param.Laws.{Laws}
+use denote.RattleType.{RattleType}
+use Rattle.frame_out.specs.declared.codec.Integer
+use Rattle.coding.specs.Varint.{var_at}
 use Rattle.coding.specs.Once.{Once}
-use Rattle.coding.specs.declared.Wrote.{Wrote}
-use Rattle.coding.proofs.Inverse.{var_one, sized_one}
+use Rattle.std.specs.Prelude.{Result}
+use Rattle.coding.specs.declared.refusal.Refusal.{Refusal}
+use Rattle.coding.proofs.Inverse.{number_one, answer_one}
 use Rattle.coding.proofs.Onces.{one_written}
-use Rattle.frame_out.proofs.Inverse.{type_one, id_one}
-use Rattle.frame_out.specs.contracts.codec.encode_type as encode_type
-use Rattle.frame_out.proofs.codec.encode_type.Reads as encode_type_reads
-use Rattle.frame_out.specs.contracts.codec.decode_type as decode_type
-use Rattle.frame_out.proofs.codec.decode_type.Reads as decode_type_reads
-use Rattle.frame_out.specs.contracts.codec.encode_stream_id as encode_stream_id
-use Rattle.frame_out.proofs.codec.encode_stream_id.Reads as encode_stream_id_reads
-use Rattle.frame_out.specs.contracts.codec.decode_stream_id as decode_stream_id
-use Rattle.frame_out.proofs.codec.decode_stream_id.Reads as decode_stream_id_reads
-use Rattle.frame_out.specs.contracts.codec.encode_error_code as encode_error_code
-use Rattle.frame_out.proofs.codec.encode_error_code.Reads as encode_error_code_reads
-use Rattle.frame_out.specs.contracts.codec.decode_error_code as decode_error_code
-use Rattle.frame_out.proofs.codec.decode_error_code.Reads as decode_error_code_reads
+use Rattle.frame_out.specs.contracts.codec.encode as encode
+use Rattle.frame_out.proofs.codec.encode.Reads as encode_reads
+use Rattle.frame_out.specs.contracts.codec.decode as decode
+use Rattle.frame_out.proofs.codec.decode.Reads as decode_reads
 use Rattle.frame_out.specs.contracts.closes.CloseKind.is_transport_layer as is_transport_layer
 use Rattle.frame_out.proofs.closes.CloseKind.is_transport_layer.Reads as is_transport_layer_reads
 use Rattle.frame_out.specs.contracts.closes.connection_close as connection_close
@@ -52,87 +49,73 @@ use Rattle.frame_out.proofs.size_bounds.Reads as size_bounds_reads
 use Rattle.frame_out.specs.contracts.ack_frequency as ack_frequency
 use Rattle.frame_out.proofs.ack_frequency.Reads as ack_frequency_reads
 
-encode_type_once : Once {B = Wrote × List ℕ} encode_type.ended encode_type_reads.Post (λ κs x s. (x, s.1.0.now))
-unfolding Once
-encode_type_once κs a x y s t p q = one_written _ _ x y _ _ p q
+-- of any type whose numbers tell its values: the law `one` of Integer
+module _ (T : RattleType) (laws : Laws T) (g : Integer.Ghosts T.Denot) (d : Dict) (one : (x y : T.Denot) → g.number x ≡ g.number y → x ≡ y) where
+  encode_once : Once {B = Result ℕ Refusal × List ℕ} (encode.ended T g d) (encode_reads.Post T laws g d) (λ κs x s. (x, s.1.0.now))
+  unfolding Once
+  encode_once κs a x y s t p q = one_written _ _ x y _ _ p q
 
-decode_type_once : Once decode_type.ended decode_type_reads.Post (λ κs x s. x)
-unfolding Once
-decode_type_once κs a x y s t p q = type_one x y _ p q
-
-encode_stream_id_once : Once {B = Wrote × List ℕ} encode_stream_id.ended encode_stream_id_reads.Post (λ κs x s. (x, s.1.0.now))
-unfolding Once
-encode_stream_id_once κs a x y s t p q = one_written _ _ x y _ _ p q
-
-decode_stream_id_once : Once decode_stream_id.ended decode_stream_id_reads.Post (λ κs x s. x)
-unfolding Once
-decode_stream_id_once κs a x y s t p q = id_one x y _ p q
-
-encode_error_code_once : Once {B = Wrote × List ℕ} encode_error_code.ended encode_error_code_reads.Post (λ κs x s. (x, s.1.0.now))
-unfolding Once
-encode_error_code_once κs a x y s t p q = one_written _ _ x y _ _ p q
-
-decode_error_code_once : Once decode_error_code.ended decode_error_code_reads.Post (λ κs x s. x)
-unfolding Once
-decode_error_code_once κs a x y s t p q = var_one x y _ p q
+  decode_once : Once (decode.ended T g d) (decode_reads.Post T laws g d) (λ κs x s. x)
+  unfolding Once
+  decode_once κs a x y s t p q = number_one g.number one x y (var_at a.0.now a.1.0) p q
 
 is_transport_layer_once : Once is_transport_layer.ended is_transport_layer_reads.Post (λ κs x s. x)
 unfolding Once
 is_transport_layer_once κs a x y s t p q = p ∙ sym q
 
-connection_close_once : Once {B = Wrote × List ℕ} connection_close.ended connection_close_reads.Post (λ κs x s. (x, s.1.1.1.1.0.now))
+connection_close_once : Once {B = Result ℕ Refusal × List ℕ} connection_close.ended connection_close_reads.Post (λ κs x s. (x, s.1.1.1.1.0.now))
 unfolding Once
 connection_close_once κs a x y s t p q = one_written _ _ x y _ _ p q
 
-application_close_once : Once {B = Wrote × List ℕ} application_close.ended application_close_reads.Post (λ κs x s. (x, s.1.1.1.0.now))
+application_close_once : Once {B = Result ℕ Refusal × List ℕ} application_close.ended application_close_reads.Post (λ κs x s. (x, s.1.1.1.0.now))
 unfolding Once
 application_close_once κs a x y s t p q = one_written _ _ x y _ _ p q
 
-close_once : Once {B = Wrote × List ℕ} close.ended close_reads.Post (λ κs x s. (x, s.1.1.1.0.now))
+close_once : Once {B = Result ℕ Refusal × List ℕ} close.ended close_reads.Post (λ κs x s. (x, s.1.1.1.0.now))
 unfolding Once
 close_once κs a x y s t p q = one_written _ _ x y _ _ p q
 
-ecn_counts_once : Once {B = Wrote × List ℕ} ecn_counts.ended ecn_counts_reads.Post (λ κs x s. (x, s.1.0.now))
+ecn_counts_once : Once {B = Result ℕ Refusal × List ℕ} ecn_counts.ended ecn_counts_reads.Post (λ κs x s. (x, s.1.0.now))
 unfolding Once
 ecn_counts_once κs a x y s t p q = one_written _ _ x y _ _ p q
 
-stream_meta_once : Once {B = Wrote × List ℕ} stream_meta.ended stream_meta_reads.Post (λ κs x s. (x, s.1.1.0.now))
+stream_meta_once : Once {B = Result ℕ Refusal × List ℕ} stream_meta.ended stream_meta_reads.Post (λ κs x s. (x, s.1.1.0.now))
 unfolding Once
 stream_meta_once κs a x y s t p q = one_written _ _ x y _ _ p q
 
-crypto_once : Once {B = Wrote × List ℕ} crypto.ended crypto_reads.Post (λ κs x s. (x, s.1.1.0.now))
+crypto_once : Once {B = Result ℕ Refusal × List ℕ} crypto.ended crypto_reads.Post (λ κs x s. (x, s.1.1.0.now))
 unfolding Once
 crypto_once κs a x y s t p q = one_written _ _ x y _ _ p q
 
-new_token_once : Once {B = Wrote × List ℕ} new_token.ended new_token_reads.Post (λ κs x s. (x, s.1.0.now))
+new_token_once : Once {B = Result ℕ Refusal × List ℕ} new_token.ended new_token_reads.Post (λ κs x s. (x, s.1.0.now))
 unfolding Once
 new_token_once κs a x y s t p q = one_written _ _ x y _ _ p q
 
 new_token_size_once : Once new_token_size.ended new_token_size_reads.Post (λ κs x s. x)
 unfolding Once
-new_token_size_once κs a x y s t p q = sized_one x y _ p q
+new_token_size_once κs a x y s t p q = answer_one x y _ p q
 
-reset_stream_once : Once {B = Wrote × List ℕ} reset_stream.ended reset_stream_reads.Post (λ κs x s. (x, s.1.0.now))
+reset_stream_once : Once {B = Result ℕ Refusal × List ℕ} reset_stream.ended reset_stream_reads.Post (λ κs x s. (x, s.1.0.now))
 unfolding Once
 reset_stream_once κs a x y s t p q = one_written _ _ x y _ _ p q
 
-stop_sending_once : Once {B = Wrote × List ℕ} stop_sending.ended stop_sending_reads.Post (λ κs x s. (x, s.1.0.now))
+stop_sending_once : Once {B = Result ℕ Refusal × List ℕ} stop_sending.ended stop_sending_reads.Post (λ κs x s. (x, s.1.0.now))
 unfolding Once
 stop_sending_once κs a x y s t p q = one_written _ _ x y _ _ p q
 
-new_connection_id_once : Once {B = Wrote × List ℕ} new_connection_id.ended new_connection_id_reads.Post (λ κs x s. (x, s.1.1.1.1.0.now))
+new_connection_id_once : Once {B = Result ℕ Refusal × List ℕ} new_connection_id.ended new_connection_id_reads.Post (λ κs x s. (x, s.1.1.1.1.0.now))
 unfolding Once
 new_connection_id_once κs a x y s t p q = one_written _ _ x y _ _ p q
 
-datagram_once : Once {B = Wrote × List ℕ} datagram.ended datagram_reads.Post (λ κs x s. (x, s.1.1.0.now))
+datagram_once : Once {B = Result ℕ Refusal × List ℕ} datagram.ended datagram_reads.Post (λ κs x s. (x, s.1.1.0.now))
 unfolding Once
 datagram_once κs a x y s t p q = one_written _ _ x y _ _ p q
 
 datagram_size_once : Once datagram_size.ended datagram_size_reads.Post (λ κs x s. x)
 unfolding Once
-datagram_size_once κs a x y s t p q = sized_one x y _ p q
+datagram_size_once κs a x y s t p q = answer_one x y _ p q
 
-ack_frequency_once : Once {B = Wrote × List ℕ} ack_frequency.ended ack_frequency_reads.Post (λ κs x s. (x, s.1.0.now))
+ack_frequency_once : Once {B = Result ℕ Refusal × List ℕ} ack_frequency.ended ack_frequency_reads.Post (λ κs x s. (x, s.1.0.now))
 unfolding Once
 ack_frequency_once κs a x y s t p q = one_written _ _ x y _ _ p q
 

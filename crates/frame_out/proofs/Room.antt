@@ -19,7 +19,7 @@ use Rattle.row_out.specs.Limits.{below62, vars_bytes}
 use Rattle.row_out.specs.Bounds.{bound_of}
 use Rattle.row_out.proofs.Laws.{cons_below, below_at, Held, out_ok, out_seen}
 use Rattle.frame_out.specs.Closes.{Closing, connection, application, is_connection, fixed_fields, close_out}
-use Rattle.frame_out.proofs.Cuts.{cut_short, cut_some, close_vals, close_vals_law, close_not, close_seen}
+use Rattle.frame_out.proofs.Cuts.{type_sizes, cut_short, cut_some, close_vals, close_vals_law, close_not, close_seen}
 
 -- ---- a smaller integer is written in no more bytes
 
@@ -55,10 +55,6 @@ unfolding var_size
 size_mono x y h k = size_least x (var_tag y) (omega (arith, fits_tag y k))
 
 -- ---- the sum
-
-type_sizes : (var_size 0x1c ≡ 1) × (var_size 0x1d ≡ 1)
-unfolding var_size var_tag
-type_sizes = (refl, refl)
 
 -- it is what the integers of a close take, with the length of a reason of n bytes
 pub fixed_bytes : (c : Closing) (n : ℕ) → fixed_fields c n ≡ length (vars_bytes (close_vals c n))
@@ -157,7 +153,7 @@ module _ (c : Closing) (reason : List ℕ) (max : ℕ) where
         rw (cut_some fixed max reason reason_small h) (close_vals_law c left ∙ out_ok (close_vals c (length left)) left _ held)
 
     pub close_exactly : (close_out c reason max ≡ no 14) ↔ (max < fixed)
-    close_exactly = (go (ltb max fixed) refl, λ h. close_not reason max c (cut_short fixed max reason reason_small h) refl)
+    close_exactly = (go (ltb max fixed) refl, λ h. close_not reason max c (cut_short fixed max reason reason_small h))
       where
         go : (t : Bool) → ltb max fixed ≡ t → close_out c reason max ≡ no 14 → max < fixed
         go true a e = ltb-true max fixed a

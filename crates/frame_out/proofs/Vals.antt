@@ -2,7 +2,7 @@
 use Rattle.std.specs.Prelude.{if◌then◌else◌}
 use mathlib.Core.Path.{◌≡◌, refl}
 use mathlib.Core.List.{List, [], ◌∷◌, ◌++◌, append_assoc, append-nil}
-use mathlib.Core.Bool.{Bool, true, false}
+use mathlib.Core.Bool.{Bool, true, false, not}
 use Prim.Native.Nat.{ℕ, ◌+◌, ◌-◌, ◌≤◌, ◌<◌, ◌^◌}
 use native.Mathlib.Omega.{arith}
 use lib.ListN.{length, length-append}
@@ -78,6 +78,11 @@ when false x = []
 abbrev pub unless : Bool → ℕ → List ℕ
 unless true x = []
 unless false x = x ∷ []
+
+-- a bit that stands where a test fails
+pub unless_not : (t : Bool) (n : ℕ) → (if not t then n else 0) ≡ (if t then 0 else n)
+unless_not true n = refl
+unless_not false n = refl
 
 -- an end below its start, or past its limit, is refused
 module _ (id start end : ℕ) (fin len : Bool) where

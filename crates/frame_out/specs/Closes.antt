@@ -1,10 +1,10 @@
 -- The closes, held to max bytes: document 01, "Encoders"; document 02, request 11; RFC 9000, 19.19.
-use Rattle.std.specs.Prelude.{ℕ, ◌+◌, ◌-◌, List, [], ◌∷◌, Bool, true, false, length, take, ltb, leb, if◌then◌else◌}
+use Rattle.std.specs.Prelude.{ℕ, ◌+◌, ◌-◌, List, [], ◌∷◌, ◌++◌, Bool, true, false, length, take, ltb, leb, if◌then◌else◌}
 use Rattle.coding.specs.Words.{Answer, no, ok, number_end}
 use Rattle.coding.specs.Varint.{var_size}
 use Rattle.frame.specs.Table.{table}
 use Rattle.row_out.specs.Writing.{Word, number, raw, word_number}
-use Rattle.row_out.specs.Limits.{frame_out}
+use Rattle.row_out.specs.Limits.{frame_out, vars_bytes, vars_out}
 
 -- the transport's, with its error code and the frame type that caused it, or nothing; the application's, with its error code
 pub data Closing : Type 0 where
@@ -35,3 +35,12 @@ close_with (application code) (ok reason) = frame_out table 0x1d (number code �
 
 unfoldable pub close_out : Closing → List ℕ → ℕ → Answer (List ℕ)
 close_out c reason max = close_with c (reason_cut (fixed_fields c (length reason)) max reason)
+
+-- ---- as integers: any of them, then the length of what is kept of a reason, and the reason
+
+unfoldable pub cut_with : List ℕ → Answer (List ℕ) → Answer (List ℕ)
+cut_with head (no k) = no k
+cut_with head (ok reason) = vars_out (head ++ (length reason ∷ [])) reason
+
+unfoldable pub cut_out : List ℕ → List ℕ → ℕ → Answer (List ℕ)
+cut_out head reason max = cut_with head (reason_cut (length (vars_bytes head) + var_size (length reason)) max reason)

@@ -1,14 +1,12 @@
 // The closes, held to max_len bytes (frame.rs, Close, ConnectionClose and ApplicationClose).
-ghost use Rattle.std.specs.Prelude.{◌≡◌, ◌+◌, ◌≤◌, length};
-ghost use Rattle.coding.specs.Said.{sized_of, wrote_of};
+ghost use Rattle.std.specs.Prelude.{◌≡◌, ◌+◌, ◌-◌, ◌≤◌, ◌<◌, length, take};
+ghost use Rattle.coding.specs.Said.{answer_of};
 ghost use Rattle.coding.specs.Varint.{var_size};
 ghost use Rattle.coding.specs.Writing.{length_of, Written};
-ghost use Rattle.row_out.specs.Writing.{word_number};
-ghost use Rattle.frame_out.specs.Closes.{connection, application, is_connection, reason_cut, close_out};
+ghost use Rattle.frame_out.specs.Closes.{connection, application, is_connection, reason_cut, cut_out, close_out};
 ghost use Rattle.frame_out.specs.Said.{type_word, closing_of};
 
-use coding::{Refusal, Sized, VarInt, Wrote};
-use frame::TypeRead;
+use coding::{Refusal, VarInt};
 use shared::FrameType;
 
 // The smallest number of bytes that each is guaranteed to fit within, besides its reason.
@@ -17,11 +15,11 @@ pub const CONNECTION_CLOSE_SIZE_BOUND: usize = 1 + 8 + 8 + 8;
 pub const APPLICATION_CLOSE_SIZE_BOUND: usize = 1 + 8 + 8;
 
 // A close without its reason. The transport's error code may be any integer.
-#[derive(Clone, Copy)]
+#[derive(Clone, Copy, PartialEq, Eq)]
 pub enum CloseKind {
     Connection {
         error_code: u64,
-        frame_type: TypeRead,
+        frame_type: Option<FrameType>,
     },
     Application {
         error_code: u64,
@@ -33,83 +31,85 @@ impl CloseKind {
         ensures { result ≡ is_connection (closing_of self) }
     {
         match self {
-            CloseKind::Connection {
-                error_code: _,
-                frame_type: _,
-            } => true,
-            CloseKind::Application { error_code: _ } => false,
+            CloseKind::Connection { .. } => true,
+            CloseKind::Application { .. } => false,
         }
     }
 }
 
 // How much of a reason max_len leaves, beside the fields of `fixed` bytes and the size of the whole reason's length; or 14.
-fn kept(fixed: usize, reason: &[u8], max_len: usize) -> Sized
-    requires { fixed ≤ 17 }
-    ensures { sized_of result ≡ length_of (reason_cut (fixed + var_size (length reason.now)) max_len reason.now) }
+fn kept(fixed: usize, reason: &[u8], max_len: usize) -> Result<usize, Refusal>
+    requires { fixed ≤ 24 }
+    ensures { answer_of result ≡ length_of (reason_cut (fixed + var_size (length reason.now)) max_len reason.now) }
 {
     let len = reason.len();
-    let Sized::Bytes(n) = VarInt(len as u64).size() else {
-        return Sized::Refused(Refusal::Argument);
-    };
-    if max_len < fixed + n {
-        return Sized::Refused(Refusal::Argument);
+    let all = fixed + VarInt(len as u64).size()?;
+    if max_len < all {
+        return Err(Refusal::Argument);
     }
-    let left = max_len - (fixed + n);
-    if len < left {
-        return Sized::Bytes(len);
-    }
-    Sized::Bytes(left)
+    Ok(len.min(max_len - all))
 }
 
-// The frame type that is written: 0 for none.
-fn number_of(frame_type: TypeRead) -> u64
-    ensures { result ≡ word_number (type_word frame_type) }
-{
-    match frame_type {
-        TypeRead::Type(ty) => ty.0,
-        TypeRead::Nothing => 0,
-    }
-}
-
-// The error code counts by its size, so that no frame is longer than max_len; the Rust counts two bytes for it.
-pub fn connection_close(
-    error_code: u64,
-    frame_type: TypeRead,
+// A close of integers. The last of them is the length of what is kept of the reason, and is set here. The others count by their
+// sizes, the error code too, so that no frame is longer than max_len; the Rust counts two bytes for the transport's code.
+fn close_of(
+    vals: &mut [u64],
     reason: &[u8],
     max_len: usize,
     out: &mut [u8],
-) -> Wrote
-    ensures { Written (close_out (connection error_code (type_word frame_type)) reason.now max_len) out.old (wrote_of result) out.new }
+) -> Result<usize, Refusal>
+    requires { (0 < length vals.old) × (length vals.old ≤ 4) }
+    ensures { Written (cut_out (take (length vals.old - 1) vals.old) reason.now max_len) out.old (answer_of result) out.new }
 {
-    let Sized::Bytes(m) = VarInt(error_code).size() else {
-        return Wrote::Refused(Refusal::Argument);
-    };
-    let ty = number_of(frame_type);
-    let Sized::Bytes(n) = VarInt(ty).size() else {
-        return Wrote::Refused(Refusal::Argument);
-    };
-    let Sized::Bytes(len) = kept(1 + m + n, reason, max_len) else {
-        return Wrote::Refused(Refusal::Argument);
-    };
-    let vals = [FrameType::CONNECTION_CLOSE.0, error_code, ty, len as u64];
-    row_out::frame_of(&vals, &reason[..len], out)
+    let last = vals.len() - 1;
+    let size = row_out::vars_len(&vals[..last])?;
+    let len = kept(size, reason, max_len)?;
+    vals[last] = len as u64;
+    row_out::frame_of(vals, &reason[..len], out)
 }
 
-pub fn application_close(error_code: u64, reason: &[u8], max_len: usize, out: &mut [u8]) -> Wrote
-    ensures { Written (close_out (application error_code) reason.now max_len) out.old (wrote_of result) out.new }
+pub fn connection_close(
+    error_code: u64,
+    frame_type: Option<FrameType>,
+    reason: &[u8],
+    max_len: usize,
+    out: &mut [u8],
+) -> Result<usize, Refusal>
+    ensures { Written (close_out (connection error_code (type_word frame_type)) reason.now max_len) out.old (answer_of result) out.new }
 {
-    let Sized::Bytes(n) = VarInt(error_code).size() else {
-        return Wrote::Refused(Refusal::Argument);
-    };
-    let Sized::Bytes(len) = kept(1 + n, reason, max_len) else {
-        return Wrote::Refused(Refusal::Argument);
-    };
-    let vals = [FrameType::APPLICATION_CLOSE.0, error_code, len as u64];
-    row_out::frame_of(&vals, &reason[..len], out)
+    // no frame type is 0
+    let ty = frame_type.map_or(0, |ty| ty.0);
+    close_of(
+        &mut [FrameType::CONNECTION_CLOSE.0, error_code, ty, 0],
+        reason,
+        max_len,
+        out,
+    )
 }
 
-pub fn close(kind: CloseKind, reason: &[u8], max_len: usize, out: &mut [u8]) -> Wrote
-    ensures { Written (close_out (closing_of kind) reason.now max_len) out.old (wrote_of result) out.new }
+pub fn application_close(
+    error_code: u64,
+    reason: &[u8],
+    max_len: usize,
+    out: &mut [u8],
+) -> Result<usize, Refusal>
+    ensures { Written (close_out (application error_code) reason.now max_len) out.old (answer_of result) out.new }
+{
+    close_of(
+        &mut [FrameType::APPLICATION_CLOSE.0, error_code, 0],
+        reason,
+        max_len,
+        out,
+    )
+}
+
+pub fn close(
+    kind: CloseKind,
+    reason: &[u8],
+    max_len: usize,
+    out: &mut [u8],
+) -> Result<usize, Refusal>
+    ensures { Written (close_out (closing_of kind) reason.now max_len) out.old (answer_of result) out.new }
 {
     match kind {
         CloseKind::Connection {

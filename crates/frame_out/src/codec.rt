@@ -1,66 +1,81 @@
-// The codecs of a frame's type, a stream id and an error code: each is an integer (frame.rs, FrameType; lib.rs, StreamId;
+// What is one integer by itself: a frame's type, a stream id, an error code (frame.rs, FrameType; lib.rs, StreamId;
 // transport_error.rs, Code).
-ghost use Rattle.std.specs.Prelude.{◌≡◌};
+ghost use Rattle.std.specs.Prelude.{◌≡◌, ℕ};
 ghost use Rattle.coding.specs.Varint.{var_at, var_out};
-ghost use Rattle.coding.specs.Said.{var_of, wrote_of};
+ghost use Rattle.coding.specs.Said.{answer_of, number_read};
 ghost use Rattle.coding.specs.Writing.{Written};
-ghost use Rattle.frame_out.specs.Said.{type_read_of, id_read_of};
 
-use coding::{VarInt, VarRead, Wrote};
+use coding::{Refusal, UnexpectedEnd, VarInt};
 use shared::{FrameType, StreamId};
 
-// A frame's type and the place past it, or the end of the input.
-#[derive(Clone, Copy)]
-pub enum FrameTypeRead {
-    Type(FrameType, usize),
-    End,
+// A value that is written as its number.
+pub trait Integer {
+    ghost number: { Self → ℕ };
+
+    // The value of a number.
+    fn of(x: u64) -> Self
+        ensures { number result ≡ x };
+
+    fn number(self) -> u64
+        ensures { result ≡ number self };
+
+    // the number tells the value
+    ghost one: { (x y : Self) → number x ≡ number y → x ≡ y };
 }
 
-// A stream id and the place past it, or the end of the input.
-#[derive(Clone, Copy)]
-pub enum StreamIdRead {
-    Id(StreamId, usize),
-    End,
+impl Integer for FrameType {
+    ghost number = { λ ty. ty.0 };
+
+    ghost one = { λ x y e i. record { 0 = e i } };
+
+    fn of(x: u64) -> FrameType {
+        FrameType(x)
+    }
+
+    fn number(self) -> u64 {
+        self.0
+    }
 }
 
-pub fn encode_type(ty: FrameType, out: &mut [u8]) -> Wrote
-    ensures { Written (var_out ty.0) out.old (wrote_of result) out.new }
+impl Integer for StreamId {
+    ghost number = { λ id. id.0 };
+
+    ghost one = { λ x y e i. record { 0 = e i } };
+
+    fn of(x: u64) -> StreamId {
+        StreamId(x)
+    }
+
+    fn number(self) -> u64 {
+        self.0
+    }
+}
+
+// An error code.
+impl Integer for u64 {
+    ghost number = { λ x. x };
+
+    ghost one = { λ x y e. e };
+
+    fn of(x: u64) -> u64 {
+        x
+    }
+
+    fn number(self) -> u64 {
+        self
+    }
+}
+
+pub fn encode<T: Integer>(x: T, out: &mut [u8]) -> Result<usize, Refusal>
+    ensures { Written (var_out (T.number x)) out.old (answer_of result) out.new }
 {
-    VarInt(ty.0).encode(out)
+    VarInt(x.number()).encode(out)
 }
 
-pub fn decode_type(s: &[u8], at: usize) -> FrameTypeRead
-    ensures { type_read_of result ≡ var_at s.now at }
+// The value at a cursor, and the place past it.
+pub fn decode<T: Integer>(s: &[u8], at: usize) -> Result<(T, usize), UnexpectedEnd>
+    ensures { number_read T.number result ≡ var_at s.now at }
 {
-    let VarRead::Var(x, next) = coding::get_var(s, at) else {
-        return FrameTypeRead::End;
-    };
-    FrameTypeRead::Type(FrameType(x.0), next)
-}
-
-pub fn encode_stream_id(id: StreamId, out: &mut [u8]) -> Wrote
-    ensures { Written (var_out id.0) out.old (wrote_of result) out.new }
-{
-    VarInt(id.0).encode(out)
-}
-
-pub fn decode_stream_id(s: &[u8], at: usize) -> StreamIdRead
-    ensures { id_read_of result ≡ var_at s.now at }
-{
-    let VarRead::Var(x, next) = coding::get_var(s, at) else {
-        return StreamIdRead::End;
-    };
-    StreamIdRead::Id(StreamId(x.0), next)
-}
-
-pub fn encode_error_code(code: u64, out: &mut [u8]) -> Wrote
-    ensures { Written (var_out code) out.old (wrote_of result) out.new }
-{
-    VarInt(code).encode(out)
-}
-
-pub fn decode_error_code(s: &[u8], at: usize) -> VarRead
-    ensures { var_of result ≡ var_at s.now at }
-{
-    coding::get_var(s, at)
+    let (x, next) = coding::get_var(s, at)?;
+    Ok((T::of(x.0), next))
 }

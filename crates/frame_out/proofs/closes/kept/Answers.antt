@@ -1,41 +1,35 @@
-use native.Mathlib.Omega.{arith}
-use mathlib.Core.Path.{ap}
-use Prim.Native.Nat.{◌+◌}
-use lib.ListN.{length, length-take}
-use Rattle.coding.specs.Words.{ok}
+use Rattle.std.proofs.Common.{◌+◌, ap, arith, length, length-take}
+use Rattle.std.proofs.lemmas.Result.{err_from_is_err_and}
+use Rattle.coding.specs.Words.{no, ok}
 use Rattle.coding.specs.Varint.{var_size}
-use Rattle.coding.specs.Said.{sized_of}
+use Rattle.coding.specs.Said.{answer_of}
 use Rattle.coding.specs.Writing.{length_of}
 use Rattle.coding.proofs.Laws.{sized_bytes, sized_not, size_le}
+use Rattle.row_out.proofs.Laws.{sized_14}
 use Rattle.frame_out.proofs.Cuts.{cut_past, cut_short, cut_some}
 use Rattle.frame_out.proofs.closes.kept.Goals as goal
 
-pub returns-in_default : goal.returns-in_default
-unfolding sized_of length_of
-returns-in_default c = rw (cut_past _ _ _ (sized_not _ _ _ c.size.ensures c.in_default.is))
+pub returns-in_err-all : goal.returns-in_err-all
+unfolding answer_of length_of
+returns-in_err-all c =
+    let p = err_from_is_err_and c.from_residual.result c.from_residual.ensures.1 in
+    rw (p.1, p.2, cut_past _ _ _ (sized_not _ _ _ c.size.ensures c.in_err-all.was)) (ap no (sized_14 _ _ _ c.size.ensures c.in_err-all.was))
 
-pub overflow_add-fixed : goal.overflow_add-fixed
-overflow_add-fixed c =
-    let h = sized_bytes _ _ _ c.size.ensures c.in-Bytes.is in
+pub overflow_add-all : goal.overflow_add-all
+overflow_add-all c =
+    let h = sized_bytes _ _ _ c.size.ensures c.in_ok-all.was in
     omega (arith, h.1, size_le _ h.0)
 
-pub returns-then-max_len-fixed : goal.returns-then-max_len-fixed
-unfolding sized_of length_of
-returns-then-max_len-fixed c =
-    let h = sized_bytes _ _ _ c.size.ensures c.in-Bytes.is in
+pub returns-then-max_len-all : goal.returns-then-max_len-all
+unfolding answer_of length_of
+returns-then-max_len-all c =
+    let h = sized_bytes _ _ _ c.size.ensures c.in_ok-all.was in
     let a = c.args in
     rw (cut_short (a.fixed + var_size (length a.reason.now)) a.max_len a.reason.now h.0 (omega (arith, h.1)))
 
-pub returns-then-len-left : goal.returns-then-len-left
-unfolding sized_of length_of
-returns-then-len-left c =
-    let h = sized_bytes _ _ _ c.size.ensures c.in-Bytes.is in
-    let a = c.args in
-    rw (cut_some (a.fixed + var_size (length a.reason.now)) a.max_len a.reason.now h.0 (omega (arith, h.1))) (ap ok (simp length-take (omega (arith, h.1))))
-
 pub returns : goal.returns
-unfolding sized_of length_of
+unfolding answer_of length_of
 returns c =
-    let h = sized_bytes _ _ _ c.size.ensures c.in-Bytes.is in
+    let h = sized_bytes _ _ _ c.size.ensures c.in_ok-all.was in
     let a = c.args in
-    rw (cut_some (a.fixed + var_size (length a.reason.now)) a.max_len a.reason.now h.0 (omega (arith, h.1))) (ap ok (simp length-take (omega (arith, h.1))))
+    rw (cut_some (a.fixed + var_size (length a.reason.now)) a.max_len a.reason.now h.0 (omega (arith, h.1))) (ap ok (simp length-take (omega (arith, h.1, c.min.ensures))))
