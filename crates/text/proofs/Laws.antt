@@ -3,7 +3,7 @@ use mathlib.Core.Path.{◌≡◌, refl, ap, ◌∙◌}
 use mathlib.Core.List.{List, [], ◌∷◌, ◌++◌}
 use mathlib.Core.Bool.{Bool, true, false}
 use Prim.Native.Nat.{ℕ, zero, suc, ◌+◌, ◌-◌, ◌*◌, ◌/◌, ◌%◌, ◌^◌, ◌≤◌, ◌<◌}
-use native.Mathlib.Nat.{not-suc-le-zero, pow-suc, div-lt_iff_lt-mul}
+use native.Mathlib.Nat.{not-suc-le-zero, pow-suc, one-le-pow, div-lt_iff_lt-mul}
 use native.Mathlib.Numerals.{add-one}
 use native.Mathlib.Omega.{arith}
 use lib.Dec.{ltb}
@@ -67,8 +67,18 @@ length_below (suc (suc n)) x h k =
     by_size x (λ l. omega (arith, length_one x l))
     (λ g. omega (arith, length_more x g, length_below (suc n) (x / 10) (omega arith) ((div-lt_iff_lt-mul (omega arith)).1 p)))
 
-pub length_u64 : (x : ℕ) → x < 2 ^ 64 → length (decimal x) ≤ 20
-length_u64 x h = length_below 20 x (omega arith) (omega arith)
+-- and from 10^k on more than k
+length_above : (k x : ℕ) → 10 ^ k ≤ x → k + 1 ≤ length (decimal x)
+length_above zero x h = decimal_some x
+length_above (suc k) x h =
+    let p : 10 ^ k * 10 ≤ x = rw pow-suc at h in
+    let q : 10 ^ k ≤ x / 10 = omega arith in
+    omega (arith, length_more x (omega (arith, one-le-pow k 10 (omega arith))), length_above k (x / 10) q)
+
+pub length_power : (x k : ℕ) → 10 ^ k ≤ x → x < 10 * 10 ^ k → length (decimal x) ≡ k + 1
+length_power x k h g =
+    let p : x < 10 ^ suc k = rw pow-suc (omega arith) in
+    omega (arith, length_above k x h, length_below (suc k) x (omega arith) p)
 
 -- ---- the digits say the number, and none is a leading zero
 

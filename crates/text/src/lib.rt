@@ -8,17 +8,11 @@ ghost use Rattle.text.specs.Decimal.{decimal};
 ghost use Rattle.text.specs.Hex.{hex_digit, hex_of, hex_or};
 
 // How many digits x has.
-#[tactic(auto, using(crate::proofs::Laws::length_one, crate::proofs::Laws::length_more, crate::proofs::Laws::length_u64, crate::proofs::Laws::decimal_some))]
+#[tactic(auto, using(crate::proofs::Laws::length_one, crate::proofs::Laws::length_power))]
 fn decimal_len(x: u64) -> usize
     ensures { result ≡ length (decimal x) }
 {
-    let mut v = x;
-    let mut n: usize = 1;
-    while 10 <= v {
-        v = v / 10;
-        n += 1;
-    }
-    n
+    if x < 10 { 1 } else { x.ilog10() as usize + 1 }
 }
 
 // Stores the n digits of x from `at` on, the last one first.
@@ -29,7 +23,7 @@ fn put_digits(buf: &mut [u8], at: usize, n: usize, x: u64)
     let mut v = x;
     for i in (0..n).rev() {
         buf[at + i] = b'0' + (v % 10) as u8;
-        v = v / 10;
+        v /= 10;
     }
 }
 
