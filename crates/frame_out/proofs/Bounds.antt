@@ -1,6 +1,5 @@
 -- A stream frame and a datagram of any type are no longer than the bound of their last type, besides the data. Of the other frames
 -- `ReadBack` has it, in the field `short` of each law.
-use Rattle.std.specs.Prelude.{if◌then◌else◌}
 use mathlib.Core.Path.{◌≡◌, refl}
 use mathlib.Core.List.{List, [], ◌∷◌, ◌++◌}
 use mathlib.Core.Bool.{Bool, true, false}

@@ -1,5 +1,5 @@
 -- What each case of the code's arguments says, in document 01's numbers and values.
-use Rattle.std.specs.Prelude.{ℕ, Option, Some, None}
+use Rattle.std.specs.Prelude.{Option, Some, None}
 use Rattle.shared.specs.declared.kinds.FrameType.{FrameType}
 use Rattle.row_out.specs.Writing.{Word, number, nothing}
 use Rattle.frame_out.specs.declared.closes.CloseKind.{CloseKind}

@@ -124,11 +124,7 @@ fn close_row(x: Close) -> FrameRow
     match x {
         Close::Connection(c) => row(
             FrameType::CONNECTION_CLOSE.0,
-            &[
-                c.error_code.into(),
-                c.frame_type.into(),
-                c.reason.into(),
-            ],
+            &[c.error_code.into(), c.frame_type.into(), c.reason.into()],
         ),
         Close::Application(c) => row(
             FrameType::APPLICATION_CLOSE.0,

@@ -1,4 +1,3 @@
-use Rattle.std.specs.Prelude.{if◌then◌else◌}
 use mathlib.Core.Path.{refl}
 use Rattle.coding.specs.Varint.{var_tag, var_size}
 use Rattle.frame.specs.Table.{table}
