@@ -1,64 +1,53 @@
 // The operations of `shared`: connection ids, ECN, stream ids, frame types.
-use cases::line;
-use cases::line::Answer;
+use cases::line::{Answer, Out, written};
 use cases::record::Numbers;
-use shared::{
-    CidAnswer, CidRead, ConnectionId, Dir, EcnCodepoint, EcnRead, FrameType, Side, StreamId,
-    StreamMade,
-};
+use coding::Refusal;
+use shared::{ConnectionId, Dir, EcnCodepoint, FrameType, Side, StreamId};
 
-// cidnew, cidbuf and ciddec.
-fn cid_read(op: u8, ns: Numbers, b: &[u8]) -> CidRead {
-    match op {
-        11 => ConnectionId::new(b),
-        12 => ConnectionId::from_buf(b, ns.n0 as usize, ns.n1 as usize),
-        _ => ConnectionId::decode_long(b, ns.n0 as usize),
+// cidnew, cidbuf and ciddec: a CID and, but for cidnew, the place past it.
+fn cid_read(op: u8, ns: Numbers, b: &[u8]) -> Result<(ConnectionId, Option<usize>), Refusal> {
+    let at = ns.n0 as usize;
+    if op == 11 {
+        return Ok((ConnectionId::new(b)?, None));
     }
+    let (id, next) = match op {
+        12 => ConnectionId::from_buf(b, at, ns.n1 as usize)?,
+        _ => ConnectionId::decode_long(b, at)?,
+    };
+    Ok((id, Some(next)))
 }
 
-// A CID's length, all its 20 bytes and, but for cidnew, the place past it; or the refusal.
-pub(crate) fn cids(op: u8, ns: Numbers, b: &[u8], out: &mut [u8], p: usize) -> usize {
-    let read = cid_read(op, ns, b);
-    let said = read.answer;
-    let id = read.cid;
-    let bytes = id.bytes;
-    match said {
-        CidAnswer::Refused(why) => line::say(out, p, Answer::No(why)),
-        CidAnswer::At(next) => {
-            let q = line::say(out, p, Answer::One(id.len as u64));
-            let q = line::and_hex(out, q, &bytes);
-            if op == 11 {
-                return q;
+// A CID's length, all its 20 bytes and the place past it; or the refusal.
+pub(crate) fn cids(op: u8, ns: Numbers, b: &[u8], out: &mut Out) {
+    match cid_read(op, ns, b) {
+        Ok((id, next)) => {
+            out.say(Ok(Answer::One(u64::from(id.len))));
+            out.and_hex(&id.bytes);
+            if let Some(next) = next {
+                out.and_num(next as u64);
             }
-            line::and_num(out, q, next as u64)
         }
+        Err(why) => out.say(Err(why)),
     }
 }
 
 // The 20 bytes come by way of a CID of length 20.
-pub(crate) fn cidenc(len: u64, bytes: &[u8], buf: &mut [u8]) -> Answer {
-    if bytes.len() != 20 {
-        return Answer::Bad;
-    }
-    if 255 < len {
-        return Answer::Bad;
-    }
-    let whole = ConnectionId::new(bytes).cid.bytes;
-    let id = ConnectionId {
-        len: len as u8,
-        bytes: whole,
+pub(crate) fn cidenc(len: u64, bytes: &[u8], buf: &mut [u8]) -> Result<Answer, Refusal> {
+    let (20, Ok(len)) = (bytes.len(), u8::try_from(len)) else {
+        return Ok(Answer::Bad);
     };
-    line::written(id.encode_long(buf))
+    let ConnectionId { bytes, .. } = ConnectionId::new(bytes)?;
+    written(ConnectionId { len, bytes }.encode_long(buf))
 }
 
 pub(crate) fn ecnbits(x: u64) -> Answer {
-    if 255 < x {
+    let Ok(bits) = u8::try_from(x) else {
         return Answer::Bad;
-    }
-    let EcnRead::Ecn(c) = EcnCodepoint::from_bits(x as u8) else {
+    };
+    let Some(c) = EcnCodepoint::from_bits(bits) else {
         return Answer::Nothing;
     };
-    let is_ce = if c.is_ce() { 1 } else { 0 };
+    let is_ce = u64::from(c.is_ce());
     match c {
         EcnCodepoint::Ect1 => Answer::Two(1, is_ce),
         EcnCodepoint::Ect0 => Answer::Two(2, is_ce),
@@ -66,12 +55,9 @@ pub(crate) fn ecnbits(x: u64) -> Answer {
     }
 }
 
-pub(crate) fn sidnew(side: u64, dir: u64, index: u64) -> Answer {
-    if 1 < side {
-        return Answer::Bad;
-    }
-    if 1 < dir {
-        return Answer::Bad;
+pub(crate) fn sidnew(side: u64, dir: u64, index: u64) -> Result<Answer, Refusal> {
+    if 1 < side || 1 < dir {
+        return Ok(Answer::Bad);
     }
     let from = if side == 0 {
         Side::Client
@@ -79,61 +65,48 @@ pub(crate) fn sidnew(side: u64, dir: u64, index: u64) -> Answer {
         Side::Server
     };
     let to = if dir == 0 { Dir::Bi } else { Dir::Uni };
-    match StreamId::new(from, to, index) {
-        StreamMade::Stream(id) => Answer::One(id.0),
-        StreamMade::Refused(why) => Answer::No(why),
-    }
+    let StreamId(id) = StreamId::new(from, to, index)?;
+    Ok(Answer::One(id))
 }
 
-fn side_of(id: StreamId) -> u64 {
-    match id.initiator() {
-        Side::Client => 0,
-        Side::Server => 1,
-    }
-}
-
-fn dir_of(id: StreamId) -> u64 {
-    match id.dir() {
-        Dir::Bi => 0,
-        Dir::Uni => 1,
-    }
-}
-
-pub(crate) fn sid(x: u64, out: &mut [u8], p: usize) -> usize {
+pub(crate) fn sid(x: u64, out: &mut Out) {
     let id = StreamId(x);
-    let q = line::num(out, p, side_of(id));
-    let rest = [dir_of(id), id.index()];
-    line::and_nums(out, q, &rest)
+    out.nums(
+        u64::from(id.initiator()),
+        &[u64::from(id.dir()), id.index()],
+    );
 }
 
 // The constants, in the order of frame_types!.
-pub(crate) fn ftypes(out: &mut [u8], p: usize) -> usize {
-    let q = line::num(out, p, FrameType::PADDING.0);
+pub(crate) fn ftypes(out: &mut Out) {
     let types = [
-        FrameType::PING.0,
-        FrameType::ACK.0,
-        FrameType::ACK_ECN.0,
-        FrameType::RESET_STREAM.0,
-        FrameType::STOP_SENDING.0,
-        FrameType::CRYPTO.0,
-        FrameType::NEW_TOKEN.0,
-        FrameType::MAX_DATA.0,
-        FrameType::MAX_STREAM_DATA.0,
-        FrameType::MAX_STREAMS_BIDI.0,
-        FrameType::MAX_STREAMS_UNI.0,
-        FrameType::DATA_BLOCKED.0,
-        FrameType::STREAM_DATA_BLOCKED.0,
-        FrameType::STREAMS_BLOCKED_BIDI.0,
-        FrameType::STREAMS_BLOCKED_UNI.0,
-        FrameType::NEW_CONNECTION_ID.0,
-        FrameType::RETIRE_CONNECTION_ID.0,
-        FrameType::PATH_CHALLENGE.0,
-        FrameType::PATH_RESPONSE.0,
-        FrameType::CONNECTION_CLOSE.0,
-        FrameType::APPLICATION_CLOSE.0,
-        FrameType::HANDSHAKE_DONE.0,
-        FrameType::ACK_FREQUENCY.0,
-        FrameType::IMMEDIATE_ACK.0,
+        FrameType::PING,
+        FrameType::ACK,
+        FrameType::ACK_ECN,
+        FrameType::RESET_STREAM,
+        FrameType::STOP_SENDING,
+        FrameType::CRYPTO,
+        FrameType::NEW_TOKEN,
+        FrameType::MAX_DATA,
+        FrameType::MAX_STREAM_DATA,
+        FrameType::MAX_STREAMS_BIDI,
+        FrameType::MAX_STREAMS_UNI,
+        FrameType::DATA_BLOCKED,
+        FrameType::STREAM_DATA_BLOCKED,
+        FrameType::STREAMS_BLOCKED_BIDI,
+        FrameType::STREAMS_BLOCKED_UNI,
+        FrameType::NEW_CONNECTION_ID,
+        FrameType::RETIRE_CONNECTION_ID,
+        FrameType::PATH_CHALLENGE,
+        FrameType::PATH_RESPONSE,
+        FrameType::CONNECTION_CLOSE,
+        FrameType::APPLICATION_CLOSE,
+        FrameType::HANDSHAKE_DONE,
+        FrameType::ACK_FREQUENCY,
+        FrameType::IMMEDIATE_ACK,
     ];
-    line::and_nums(out, q, &types)
+    out.num(FrameType::PADDING.0);
+    for ty in types {
+        out.and_num(ty.0);
+    }
 }

@@ -4,57 +4,40 @@
 mod kinds; // kinds.rt: the operations of `shared`
 mod leaf; // leaf.rt: the operations of `coding`
 
-use cases::line::Answer;
-use cases::record::{Numbers, Turn};
-use cases::{line, record, stdio};
-use coding::{Place, part};
+use cases::line::{Answer, Out};
+use cases::record::Numbers;
+use cases::{record, stdio};
+use coding::Refusal;
 
 // The operations that answer with a word and numbers.
-fn said(op: u8, ns: Numbers, b: &[u8]) -> Answer {
+fn said(op: u8, ns: Numbers, b: &[u8]) -> Result<Answer, Refusal> {
     match op {
         1 => leaf::vread(ns, b),
         2 => leaf::vfrom(ns.n0),
         3 => leaf::vsize(ns.n0),
         6 => leaf::get(ns, b),
         9 => leaf::take(ns, b),
-        15 => kinds::ecnbits(ns.n0),
+        15 => Ok(kinds::ecnbits(ns.n0)),
         16 => kinds::sidnew(ns.n0, ns.n1, ns.n2),
-        _ => Answer::Bad,
+        _ => Ok(Answer::Bad),
     }
 }
 
-// The answer of an operation to a record's fields, put at a place of out.
-fn answer(op: u8, rec: &[u8], work: &mut [u8], out: &mut [u8], at: usize) -> usize {
+// Puts the answer of an operation to a record's fields.
+fn answer(op: u8, rec: &[u8], work: &mut [u8], out: &mut Out) {
     let ns = record::numbers_of(rec);
     let b = record::bytes(rec, 0);
     match op {
-        4 | 5 | 7 | 8 | 14 => leaf::write(op, rec, work, out, at),
-        10 => line::hex(out, at, leaf::part_at(ns, b)),
-        11 | 12 | 13 => kinds::cids(op, ns, b, out, at),
-        17 => kinds::sid(ns.n0, out, at),
-        18 => kinds::ftypes(out, at),
-        _ => line::say(out, at, said(op, ns, b)),
-    }
-}
-
-fn run(rt: HostRuntime, buf: &mut [u8], work: &mut [u8], out: &mut [u8]) {
-    let mut at = 0;
-    let mut count = 0;
-    while count < stdio::MOST {
-        let t = stdio::next(rt.stdin(), buf);
-        let Turn::Record(op, len) = t else {
-            stdio::end(rt.stdout(), out, at, t, count);
-            return;
-        };
-        let p = answer(op, part(buf, Place { start: 0, len }), work, out, at);
-        at = stdio::end_line(rt.stdout(), out, p);
-        count += 1;
+        4 | 5 | 7 | 8 | 14 => leaf::write(op, rec, work, out),
+        10 => out.hex(leaf::part_at(ns, b)),
+        11 | 12 | 13 => kinds::cids(op, ns, b, out),
+        17 => kinds::sid(ns.n0, out),
+        18 => kinds::ftypes(out),
+        _ => out.say(said(op, ns, b)),
     }
 }
 
 fn main(rt: HostRuntime) {
-    let mut buf = stdio::room();
     let mut work = stdio::room();
-    let mut out = stdio::lines();
-    run(rt, &mut buf, &mut work, &mut out);
+    stdio::run(rt, |op, rec, out| answer(op, rec, &mut work, out));
 }
