@@ -1,5 +1,5 @@
 -- The frame's bytes, its size and its refusals.
-use Rattle.std.specs.Prelude.{if◌then◌else◌}
+use Rattle.std.specs.Prelude.{if◌then◌else◌, Result, Ok, Err}
 use mathlib.Core.Path.{◌≡◌, refl, sym, ap, ◌∙◌}
 use mathlib.Core.List.{List, [], ◌∷◌, ◌++◌, append_assoc, append-nil}
 use mathlib.Core.Bool.{Bool, true, false}
@@ -15,10 +15,8 @@ use Rattle.coding.specs.Varint.{var_bytes, var_size}
 use Rattle.coding.proofs.Laws.{length_var, size_pos}
 use Rattle.coding.specs.Writing.{length_of}
 use Rattle.coding.specs.Refusals.{number_of}
-use Rattle.coding.specs.Said.{sized_of}
+use Rattle.coding.specs.Said.{answer_of}
 use Rattle.coding.specs.declared.refusal.Refusal.{Refusal}
-use Rattle.coding.specs.declared.varint.Sized.{Sized}
-use Rattle.coding.specs.declared.varint.Sized.TheVariants as sized
 use Rattle.frame.specs.Table.{table}
 use Rattle.row_out.specs.Writing.{rounds_in, field_bytes, row_bytes, frame_bytes}
 use Rattle.row_out.specs.Limits.{below62, in_frame, limited, word_numbers, frame_out, vars_bytes, vars_out}
@@ -106,14 +104,19 @@ limited_no xs bs k = go (below62 xs) (leb (length bs) 65527)
     go true false h = refl
     go false u h = refl
 
+-- the limits refuse with 14 alone
+out_14 : (xs bs : List ℕ) (k : ℕ) → vars_out xs bs ≡ no k → k ≡ 14
+unfolding vars_out
+out_14 xs bs k e = let f = limited_no xs (vars_bytes xs ++ bs) k e in cc
+
 -- a refusal of some of the integers refuses the whole
-part_no : (xs given whole : List ℕ) → (below62 given ≡ true → below62 xs ≡ true) → length (vars_bytes xs) ≤ length whole → vars_out xs [] ≡ no 14
-    → limited given whole ≡ no 14
-part_no xs given whole up l e = go (below62 given) (leb (length whole) 65527) refl refl
+part_no : {k : ℕ} (xs given whole : List ℕ) → (below62 given ≡ true → below62 xs ≡ true) → length (vars_bytes xs) ≤ length whole → vars_out xs [] ≡ no k
+    → limited given whole ≡ no k
+part_no {k} xs given whole up l e = go (below62 given) (leb (length whole) 65527) refl refl
   where
-    go : (t u : Bool) → below62 given ≡ t → leb (length whole) 65527 ≡ u → limited given whole ≡ no 14
-    go false u b d = limited_past given whole b
-    go true false b d = limited_long given whole (leb-false (length whole) 65527 d)
+    go : (t u : Bool) → below62 given ≡ t → leb (length whole) 65527 ≡ u → limited given whole ≡ no k
+    go false u b d = let n = out_14 xs [] k e in rw n (limited_past given whole b)
+    go true false b d = let n = out_14 xs [] k e in rw n (limited_long given whole (leb-false (length whole) 65527 d))
     go true true b d =
         let h : Held xs [] (length (vars_bytes xs)) = record { small = up b; short = omega (arith, leb-true (length whole) 65527 d); long = omega arith } in
         let f = out_ok xs [] _ h in
@@ -195,10 +198,10 @@ module _ (delay : ℕ) (l : List ℕ) (ecn : Option (ℕ × (ℕ × ℕ))) where
         let y = below_cons _ _ x.1 in
         cons_below _ _ x.0 (cons_below _ _ y.0 k)
 
-    pub head_no : length l ≤ 65527 → vars_out head [] ≡ no 14 → ack_out delay l ecn ≡ no 14
+    pub head_no : {k : ℕ} → length l ≤ 65527 → vars_out head [] ≡ no k → ack_out delay l ecn ≡ no k
     head_no h e = is_limited ∙ part_no head given whole (λ b. (all_below h b).0) (omega (arith, length_whole)) e
 
-    pub counts_no : length l ≤ 65527 → vars_out counts [] ≡ no 14 → ack_out delay l ecn ≡ no 14
+    pub counts_no : {k : ℕ} → length l ≤ 65527 → vars_out counts [] ≡ no k → ack_out delay l ecn ≡ no k
     counts_no h e = is_limited ∙ part_no counts given whole (λ b. (all_below h b).1) (omega (arith, length_whole)) e
 
     module _ (n k : ℕ) (first : Held head [] n) (last : Held counts [] k) where
@@ -226,17 +229,17 @@ pub record Known (w : Answer (List ℕ)) (n : ℕ) : Type 0 where
   pub is : w ≡ ok bytes
   pub long : length bytes ≡ n
 
-module _ (r : Sized) (w : Answer (List ℕ)) (e : sized_of r ≡ length_of w) where
-  pub known : (n : ℕ) → r ≡ sized.Bytes n → Known w n
-  unfolding sized_of length_of
+module _ (r : Result ℕ Refusal) (w : Answer (List ℕ)) (e : answer_of r ≡ length_of w) where
+  pub known : (n : ℕ) → r ≡ Ok n → Known w n
+  unfolding answer_of length_of
   known n q = go w (rw q at e)
     where
       go : (v : Answer (List ℕ)) → ok n ≡ length_of v → Known v n
       go (no k) h = let z : ◌≡◌ {A = ℕ} 0 1 = cc in absurd (omega arith)
       go (ok bs) h = record { bytes = bs; is = refl; long = cc }
 
-  pub unknown : (why : Refusal) → r ≡ sized.Refused why → w ≡ no (number_of why)
-  unfolding sized_of length_of
+  pub unknown : (why : Refusal) → r ≡ Err why → w ≡ no (number_of why)
+  unfolding answer_of length_of
   unknown why q = go w (rw q at e)
     where
       go : (v : Answer (List ℕ)) → no (number_of why) ≡ length_of v → v ≡ no (number_of why)

@@ -1,16 +1,24 @@
 -- What one turn of the loops over the blocks does.
-use mathlib.Core.Path.{◌≡◌, sym, ap, ◌∙◌}
+use Rattle.std.specs.Prelude.{Result, Ok, Err, IsOk}
+use mathlib.Core.Path.{◌≡◌, refl, sym, ap, ◌∙◌}
 use mathlib.Core.List.{List, [], ◌++◌, append_assoc, append-nil}
 use Prim.Native.Nat.{ℕ, ◌+◌, ◌-◌, ◌*◌, ◌/◌, ◌≤◌, ◌<◌, ◌^◌}
 use native.Mathlib.Omega.{arith}
 use lib.ListN.{length, length-append}
-use Rattle.coding.specs.Varint.{var_bytes, var_size, var_put}
+use Rattle.coding.specs.Said.{answer_of}
+use Rattle.coding.specs.Varint.{var_bytes, var_size, var_sized, var_put}
+use Rattle.coding.specs.declared.refusal.Refusal.{Refusal}
 use Rattle.coding.specs.Writing.{Put}
-use Rattle.coding.proofs.Laws.{length_var, length_splice, size_le, put_some}
+use Rattle.coding.proofs.Laws.{sized_not, length_var, length_splice, size_le, put_some}
 use Rattle.coding.proofs.Writes.{So, so_none, so_put, put_fits}
 use Rattle.row_out.specs.Limits.{vars_bytes}
 use Rattle.ack_out.specs.Acks.{all_ranges, block_bytes}
 use Rattle.ack_out.proofs.Lists.{at, Kept, blocks_of, step_bytes, bytes_one, bytes_none}
+
+-- an integer that has a form has a size
+pub has_size : (r : Result ℕ Refusal) (x : ℕ) → answer_of r ≡ var_sized x → x < 2 ^ 62 → IsOk r
+has_size (Ok n) x e h = refl
+has_size (Err why) x e h = absurd (omega (arith, sized_not (Err why) x why e refl))
 
 -- the blocks are the differences from the last number down
 pub blocks_steps : (l : List ℕ) → Kept l → block_bytes (all_ranges l) ≡ step_bytes l (length l - 1)

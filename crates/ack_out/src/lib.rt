@@ -5,14 +5,14 @@
 ghost use Rattle.std.specs.Prelude.{◌≡◌, true, [], ◌+◌, ◌-◌, ◌*◌, ◌≤◌, ◌<◌, length, get_or};
 ghost use Rattle.coding.specs.Words.{max_datagram, number_end};
 ghost use Rattle.coding.specs.Varint.{var_size};
-ghost use Rattle.coding.specs.Said.{sized_of, wrote_of};
+ghost use Rattle.coding.specs.Said.{answer_of};
 ghost use Rattle.coding.specs.Writing.{length_of, Written, Put};
 ghost use Rattle.row_out.specs.Limits.{vars_out, stored};
 ghost use Rattle.ack_out.specs.Acks.{ascends, is_ranges, all_ranges, block_bytes, ack_type_of, head_of, counts_of, ack_out};
 ghost use Rattle.ack_out.specs.Said.{ecn_given};
 
-use coding::{MAX_DATAGRAM, NUMBER_END, Refusal, Sized, VarInt, Wrote};
-use frame::AckEcn;
+use coding::{MAX_DATAGRAM, NUMBER_END, Refusal, VarInt};
+use ecn::EcnCounts;
 use shared::FrameType;
 
 // Whether each number is below the next.
@@ -39,10 +39,7 @@ fn var_size(x: u64) -> usize
     requires { x < number_end }
     ensures { (result ≡ var_size x) × (result ≤ 8) }
 {
-    let Sized::Bytes(n) = VarInt(x).size() else {
-        return 0;
-    };
-    n
+    VarInt(x).size().unwrap()
 }
 
 // A gap or a block: the number after number i of the list minus that one, less one.
@@ -77,17 +74,17 @@ fn put_blocks(list: &[u64], buf: &mut [u8], at: usize) -> usize
     next
 }
 
-fn ack_type(ecn: AckEcn) -> FrameType
+fn ack_type(ecn: Option<EcnCounts>) -> FrameType
     ensures { result.0 ≡ ack_type_of (ecn_given ecn) }
 {
     match ecn {
-        AckEcn::Counts(_) => FrameType::ACK_ECN,
-        AckEcn::Nothing => FrameType::ACK,
+        Some(_) => FrameType::ACK_ECN,
+        None => FrameType::ACK,
     }
 }
 
 // The integers before the blocks: the type, the largest number, the delay, and how many ranges follow the first.
-fn head_of(delay: u64, list: &[u64], ecn: AckEcn) -> [u64; 4]
+fn head_of(delay: u64, list: &[u64], ecn: Option<EcnCounts>) -> [u64; 4]
     requires { is_ranges list.now ≡ true }
     ensures { result ≡ head_of delay (all_ranges list.now) (ecn_given ecn) }
 {
@@ -96,68 +93,68 @@ fn head_of(delay: u64, list: &[u64], ecn: AckEcn) -> [u64; 4]
 }
 
 // The bytes of the ECN counts, or 14.
-fn counts_len(ecn: AckEcn) -> Sized
-    ensures { sized_of result ≡ length_of (vars_out (counts_of (ecn_given ecn)) []) }
+fn counts_len(ecn: Option<EcnCounts>) -> Result<usize, Refusal>
+    ensures { answer_of result ≡ length_of (vars_out (counts_of (ecn_given ecn)) []) }
 {
     match ecn {
-        AckEcn::Counts(c) => row_out::vars_len(&[c.ect0, c.ect1, c.ce]),
-        AckEcn::Nothing => Sized::Bytes(0),
+        Some(c) => row_out::vars_len(&[c.ect0, c.ect1, c.ce]),
+        None => Ok(0),
     }
 }
 
-fn put_counts(ecn: AckEcn, buf: &mut [u8], at: usize) -> usize
+fn put_counts(ecn: Option<EcnCounts>, buf: &mut [u8], at: usize) -> usize
     ensures { Put (stored (vars_out (counts_of (ecn_given ecn)) [])) buf.old at result buf.new }
 {
     match ecn {
-        AckEcn::Counts(c) => row_out::put_vars(buf, at, &[c.ect0, c.ect1, c.ce]),
-        AckEcn::Nothing => at,
+        Some(c) => row_out::put_vars(buf, at, &[c.ect0, c.ect1, c.ce]),
+        None => at,
     }
 }
 
 // The bytes of the frame of a list that keeps its rule, or 14. Each number of the list has a byte or more.
-fn frame_len(delay: u64, list: &[u64], ecn: AckEcn) -> Sized
+fn frame_len(delay: u64, list: &[u64], ecn: Option<EcnCounts>) -> Result<usize, Refusal>
     requires { is_ranges list.now ≡ true }
-    ensures { sized_of result ≡ length_of (ack_out delay list.now (ecn_given ecn)) }
+    ensures { answer_of result ≡ length_of (ack_out delay list.now (ecn_given ecn)) }
 {
     if MAX_DATAGRAM < list.len() {
-        return Sized::Refused(Refusal::Argument);
+        return Err(Refusal::Argument);
     }
     let head = head_of(delay, list, ecn);
-    let Sized::Bytes(first) = row_out::vars_len(&head) else {
-        return Sized::Refused(Refusal::Argument);
-    };
-    let Sized::Bytes(last) = counts_len(ecn) else {
-        return Sized::Refused(Refusal::Argument);
-    };
+    let first = row_out::vars_len(&head)?;
+    let last = counts_len(ecn)?;
     let all = first + blocks_len(list) + last;
     if MAX_DATAGRAM < all {
-        return Sized::Refused(Refusal::Argument);
+        return Err(Refusal::Argument);
     }
-    Sized::Bytes(all)
+    Ok(all)
 }
 
 // The bytes of the frame, or 14.
-fn ack_len(delay: u64, list: &[u64], ecn: AckEcn) -> Sized
-    ensures { sized_of result ≡ length_of (ack_out delay list.now (ecn_given ecn)) }
+fn ack_len(delay: u64, list: &[u64], ecn: Option<EcnCounts>) -> Result<usize, Refusal>
+    ensures { answer_of result ≡ length_of (ack_out delay list.now (ecn_given ecn)) }
 {
     if is_ranges(list) {
-        return frame_len(delay, list, ecn);
+        frame_len(delay, list, ecn)
+    } else {
+        Err(Refusal::Argument)
     }
-    Sized::Refused(Refusal::Argument)
 }
 
 // Writes an ACK frame from byte 0 of out on.
-pub fn ack(delay: u64, list: &[u64], ecn: AckEcn, out: &mut [u8]) -> Wrote
-    ensures { Written (ack_out delay list.now (ecn_given ecn)) out.old (wrote_of result) out.new }
+pub fn ack(
+    delay: u64,
+    list: &[u64],
+    ecn: Option<EcnCounts>,
+    out: &mut [u8],
+) -> Result<usize, Refusal>
+    ensures { Written (ack_out delay list.now (ecn_given ecn)) out.old (answer_of result) out.new }
 {
-    let Sized::Bytes(len) = ack_len(delay, list, ecn) else {
-        return Wrote::Refused(Refusal::Argument);
-    };
+    let len = ack_len(delay, list, ecn)?;
     if out.len() < len {
-        return Wrote::Refused(Refusal::Room);
+        return Err(Refusal::Room);
     }
     let head = head_of(delay, list, ecn);
     let blocks = row_out::put_vars(out, 0, &head);
     let counts = put_blocks(list, out, blocks);
-    Wrote::Len(put_counts(ecn, out, counts))
+    Ok(put_counts(ecn, out, counts))
 }

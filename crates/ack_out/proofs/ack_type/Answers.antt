@@ -1,10 +1,10 @@
 use Rattle.ack_out.specs.Acks.{ack_type_of}
 use Rattle.ack_out.proofs.ack_type.Goals as goal
 
-pub returns-in-Counts : goal.returns-in-Counts
+pub returns-in-Some : goal.returns-in-Some
 unfolding ack_type_of
-returns-in-Counts c = rw c.in-Counts.is
+returns-in-Some c = rw c.in-Some.is
 
-pub returns-in-Nothing : goal.returns-in-Nothing
+pub returns-in-None : goal.returns-in-None
 unfolding ack_type_of
-returns-in-Nothing c = rw c.in-Nothing.is
+returns-in-None c = rw c.in-None.is

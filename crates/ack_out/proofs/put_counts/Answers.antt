@@ -4,10 +4,10 @@ use Rattle.ack_out.specs.Acks.{counts_of}
 use Rattle.ack_out.proofs.Frames.{no_counts}
 use Rattle.ack_out.proofs.put_counts.Goals as goal
 
-pub returns-in-Counts : goal.returns-in-Counts
+pub returns-in-Some : goal.returns-in-Some
 unfolding counts_of
-returns-in-Counts c = rw c.in-Counts.is c.put_vars.ensures
+returns-in-Some c = rw c.in-Some.is c.put_vars.ensures
 
-pub returns-in-Nothing : goal.returns-in-Nothing
+pub returns-in-None : goal.returns-in-None
 unfolding stored
-returns-in-Nothing c = rw (c.in-Nothing.is, no_counts) (put_none _ _)
+returns-in-None c = rw (c.in-None.is, no_counts) (put_none _ _)
