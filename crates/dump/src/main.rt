@@ -3,7 +3,7 @@
 
 ghost use Rattle.std.specs.Prelude.{◌≤◌, length, IfOk};
 
-use coding::{Place, Wrote};
+use coding::Place;
 use std::io;
 use std::io::{Print, Read, Stdin};
 
@@ -32,8 +32,7 @@ fn main(rt: HostRuntime) -> io::Result<()> {
     let mut datagram = [0u8; DATAGRAM];
     let n = read_full(rt.stdin(), &mut datagram)?;
     let mut text = [0u8; TEXT];
-    let wrote = dump_text::dump(&datagram[..n], &mut text);
-    let Wrote::Len(len) = wrote else {
+    let Ok(len) = dump_text::dump(&datagram[..n], &mut text) else {
         return Ok(());
     };
     rt.stdout()

@@ -9,7 +9,7 @@ use lib.ListN.{length, drop, length-append, length-drop}
 use lib.Dec.{ltb}
 use borrow.Author.Tests.{ltb-true, ltb-false}
 use Rattle.coding.specs.Words.{Answer, no, ok}
-use Rattle.packet.specs.Header.{Header, initial, zero_rtt, handshake, retry, short, negotiate, Outcome, refused_header, outside, length_in}
+use Rattle.packet.specs.Header.{Header, initial, zero_rtt, handshake, retry, short, negotiate, Outcome, outside, length_in}
 use Rattle.packet.specs.Split.{Split}
 use Rattle.packet.specs.Walk.{PacketStep, step_on, stop_at, packets_from, walk_at}
 use Rattle.packet.proofs.Within.{least}
@@ -17,7 +17,7 @@ use Rattle.packet.proofs.Splits.{split_taken, split_refused}
 use Rattle.packet.proofs.Walks.{first, size, met_no, met_ok, walk_no, walk_last, walk_more, walk_refused, header_outside, least_pos, step_out, step_empty, step_end, step_in}
 use Rattle.text.proofs.Laws.{length_below}
 use Rattle.dump_text.specs.Turns.{line_at}
-use Rattle.dump_text.specs.Dump.{number_then, kind_word, refusal_in, packet_line, refused_line, total_line, line_of, after_of, lines_of, dump_text}
+use Rattle.dump_text.specs.Dump.{number_then, kind_word, packet_line, refused_line, total_line, line_of, after_of, lines_of, dump_text}
 
 -- ---- a line
 
@@ -28,7 +28,6 @@ module _ (d : ℕ) (some : 1 ≤ d) where
   word_le x c h = simp length-append (omega (arith, length_below d x some h))
 
 kind_le : (a : Answer Header) → length (kind_word a) ≤ 10
-unfolding kind_word
 kind_le (no k) = omega arith
 kind_le (ok (initial token len)) = omega arith
 kind_le (ok (zero_rtt len)) = omega arith
@@ -53,7 +52,6 @@ module _ (d : ℕ) (some : 1 ≤ d) where
 
 -- a packet with a rest has 8 bytes or more
 with_length : (h : Header) → (length_in (ok h) ≡ none → ⊥) → 8 ≤ least h
-unfolding length_in
 with_length (initial token len) n = omega arith
 with_length (zero_rtt len) n = omega arith
 with_length (handshake len) n = omega arith
@@ -71,7 +69,7 @@ module _ (total : ℕ) (small : total < 65528) where
   Fits turns start s = length (lines_of total (packets_from turns start s 0 (1 ∷ []) false)) ≤ 4 * length s + 45
 
   fits_no : (turns start : ℕ) (s : List ℕ) (k : ℕ) → start ≤ total → (one s).header.said ≡ no k → Fits turns start s
-  unfolding lines_of line_of after_of refusal_in step_on
+  unfolding lines_of line_of after_of step_on
   fits_no turns start s k l e =
       let r = split_refused s 0 (1 ∷ []) false k e in
       rw (walk_no 0 (1 ∷ []) false turns start s k e, met_no start (one s) k e, e)
@@ -127,7 +125,7 @@ module _ (total : ℕ) (small : total < 65528) where
 
 -- past 65,527 bytes it is one line
 long_text : (s : List ℕ) → outside s 0 (1 ∷ []) ≡ true → length (dump_text s) ≤ 64
-unfolding dump_text walk_at lines_of line_of after_of refusal_in stop_at refused_header
+unfolding dump_text walk_at lines_of line_of after_of stop_at
 long_text s o =
     rw (walk_refused s 0 (1 ∷ []) false 14 (header_outside s 0 (1 ∷ []) false o))
     (simp length-append (omega (arith, refused_le 5 (omega arith) 0 14 (omega arith) (omega arith))))
@@ -159,11 +157,11 @@ module _ (s : List ℕ) (at : ℕ) (l : length s < 2 ^ 64) (k : at < 2 ^ 64) whe
   Short x = length (line_of (length s) x.met x.header) ≤ 80
 
   stop_le : (n : ℕ) → n ≤ 14 → Short (stop_at at n)
-  unfolding stop_at refused_header line_of refusal_in
+  unfolding stop_at line_of
   stop_le n h = omega (arith, refused_le 20 (omega arith) at n (omega arith) (omega arith))
 
   on_le : (x : Split) → x ≡ one (drop at s) → (a : Answer Header) → x.header.said ≡ a → Short (step_on at x)
-  unfolding step_on line_of refusal_in
+  unfolding step_on line_of
   on_le x q (no n) e =
       let r = split_refused (drop at s) 0 (1 ∷ []) false n (rw q at e) in
       rw (met_no at x n e, e) (omega (arith, refused_le 20 (omega arith) at n (omega arith) (omega arith)))

@@ -1,5 +1,4 @@
 -- What one turn of the loop over the lines does, where it counts them and where it writes them.
-use Rattle.std.specs.Prelude.{if◌then◌else◌}
 use mathlib.Core.Path.{◌≡◌, refl, sym, ap, ◌∙◌}
 use mathlib.Core.List.{List, [], ◌∷◌, ◌++◌, append_assoc}
 use mathlib.Core.Bool.{Bool, true, false}
@@ -12,33 +11,12 @@ use Rattle.coding.proofs.Laws.{length_splice}
 use Rattle.coding.proofs.Writes.{So, so_none, so_put, put_so}
 use Rattle.packet.proofs.Walks.{repeated, walk_steps, step_inside}
 use Rattle.dump_text.specs.Dump.{lines_of, dump_text, next_of}
-use Rattle.dump_text.specs.Turns.{step_here, line_at, next_in, text_place, place_after, Roomy, AllPut}
-use Rattle.dump_text.specs.declared.Turn.{Turn}
-use Rattle.dump_text.specs.declared.Turn.TheVariants as turn
+use Rattle.dump_text.specs.Turns.{step_here, line_at, place_after, Roomy, AllPut}
 use Rattle.dump_text.proofs.Bounds.{line_short}
 use Rattle.dump_text.proofs.Texts.{next_some, more_text, last_text}
 
 pub so_length : {old bs new : List ℕ} {r : ℕ} → So old 0 bs r new → length bs ≤ length old → length new ≡ length old
 so_length {old} {bs} s h = rw s.bytes (length_splice old bs 0 (omega arith))
-
--- ---- what a turn answered, by what was seen of it
-
-module _ (t : Turn) where
-  pub told_next : (next p : ℕ) (o : Option ℕ) → t ≡ turn.More next p → next_in t ≡ o → some next ≡ o
-  unfolding next_in
-  told_next next p o e f = rw e at f
-
-  pub told_place : (next p : ℕ) → t ≡ turn.More next p → text_place t ≡ p
-  unfolding text_place
-  told_place next p e = rw e
-
-  pub told_end : (p : ℕ) (o : Option ℕ) → t ≡ turn.Done p → next_in t ≡ o → none ≡ o
-  unfolding next_in
-  told_end p o e f = rw e at f
-
-  pub told_last : (p : ℕ) → t ≡ turn.Done p → text_place t ≡ p
-  unfolding text_place
-  told_last p e = rw e
 
 -- ---- the text so far, and what the steps from a place on add to it
 
@@ -186,7 +164,7 @@ module _ {s old buf : List ℕ} {at p n : ℕ} (l : length s < 2 ^ 64) where
 
     pub lines_more : (anew : Bool) → Lines s old buf anew at p n → Roomy anew s (length old) → (next : ℕ) → some next ≡ next_of (step_here s at).met
         → Lines s old new anew next (place_after anew q) (n + (q - p))
-    unfolding place_after Roomy
+    unfolding Roomy
     lines_more true g r next e = record { count = counting_more g.count (q - p) (line_len true g r) next e; place = (refl, lines_same true g r) }
     lines_more false g r next e = record { count = counting_more g.count (q - p) (line_len false g r) next e; place = going_more g.place r put next e }
 

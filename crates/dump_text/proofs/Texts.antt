@@ -6,35 +6,10 @@ use mathlib.Core.Option.{none, some}
 use Prim.Native.Nat.{ℕ, suc, ◌+◌}
 use native.Mathlib.Omega.{arith}
 use lib.ListN.{length}
-use Rattle.packet.specs.Walk.{Met, at_end, packet, refused_at, PacketStep}
-use Rattle.packet.specs.Said.{header_of, outcome_of, met_of, packet_step_of}
-use Rattle.packet.specs.declared.walk.Found.TheVariants as found
-use Rattle.packet.specs.declared.walk.Stepped.{Stepped}
+use Rattle.packet.specs.Walk.{Met, at_end, packet, refused_at}
 use Rattle.packet.proofs.Walks.{repeated, ends, stops, goes}
-use Rattle.coding.specs.declared.Place.{Place}
-use Rattle.dump_text.specs.Dump.{packet_line, refused_line, refusal_in, total_line, line_of, after_of, lines_of, next_of}
+use Rattle.dump_text.specs.Dump.{line_of, after_of, lines_of, next_of}
 use Rattle.dump_text.specs.Turns.{step_here, line_at}
-
--- ---- by what was found
-
-module _ (n : ℕ) (x : Stepped) (y : PacketStep) (e : packet_step_of x ≡ y) where
-  pub found_end : x.found ≡ found.End → (total_line n ≡ line_of n y.met y.header) × (none ≡ next_of y.met)
-  unfolding packet_step_of met_of line_of next_of
-  found_end f = rw (← e, f) (refl, refl)
-
-  pub found_packet : (p : Place) → x.found ≡ found.Packet p
-      → (packet_line p.start p.len (outcome_of x.plain_header) ≡ line_of n y.met y.header) × (some (p.start + p.len) ≡ next_of y.met)
-  unfolding packet_step_of met_of line_of next_of
-  found_packet p f = rw (← e, f) (refl, refl)
-
-  pub found_refused : (start : ℕ) → x.found ≡ found.Refused start
-      → (refused_line start (refusal_in (header_of x.plain_header.header)) ≡ line_of n y.met y.header) × (none ≡ next_of y.met)
-  unfolding packet_step_of met_of line_of next_of outcome_of
-  found_refused start f = rw (← e, f) (refl, refl)
-
-pub found_met : (x : Stepped) (y : PacketStep) → packet_step_of x ≡ y → (p : Place) → x.found ≡ found.Packet p → y.met ≡ packet p.start p.len
-unfolding packet_step_of met_of
-found_met x y e p f = rw (← e, f)
 
 -- ---- by what comes next
 
@@ -45,7 +20,6 @@ pub record Packet (m : Met) (next : ℕ) : Type 0 where
   pub end : start + len ≡ next
 
 pub next_some : (m : Met) (next : ℕ) → some next ≡ next_of m → Packet m next
-unfolding next_of
 next_some at_end next e = let z : ◌≡◌ {A = ℕ} 0 1 = cc in absurd (omega arith)
 next_some (packet start len) next e = record { start = start; len = len; is = refl; end = cc }
 next_some (refused_at start) next e = let z : ◌≡◌ {A = ℕ} 0 1 = cc in absurd (omega arith)
@@ -65,7 +39,7 @@ module _ (s : List ℕ) (at n : ℕ) where
 
   -- and where none is
   pub last_text : none ≡ next_of (step_here s at).met → lines_of (length s) (repeated (suc n) s at 0 (1 ∷ []) false) ≡ line_at s at
-  unfolding repeated lines_of line_at line_of after_of next_of
+  unfolding repeated lines_of line_at line_of after_of
   last_text = go (step_here s at).met refl
     where
       go : (m : Met) → (step_here s at).met ≡ m → none ≡ next_of m → lines_of (length s) (repeated (suc n) s at 0 (1 ∷ []) false) ≡ line_at s at

@@ -11,7 +11,7 @@ unfoldable pub number_then : ℕ → ℕ → List ℕ
 number_then x after = decimal x ++ (after ∷ [])
 
 -- "initial ", "0rtt ", "handshake ", "retry ", "short ", "vneg "
-unfoldable pub kind_word : Answer Header → List ℕ
+abbrev pub kind_word : Answer Header → List ℕ
 kind_word (no k) = []
 kind_word (ok (initial token len)) = 0x69 ∷ 0x6e ∷ 0x69 ∷ 0x74 ∷ 0x69 ∷ 0x61 ∷ 0x6c ∷ 0x20 ∷ []
 kind_word (ok (zero_rtt len)) = 0x30 ∷ 0x72 ∷ 0x74 ∷ 0x74 ∷ 0x20 ∷ []
@@ -20,7 +20,7 @@ kind_word (ok retry) = 0x72 ∷ 0x65 ∷ 0x74 ∷ 0x72 ∷ 0x79 ∷ 0x20 ∷ []
 kind_word (ok (short spin)) = 0x73 ∷ 0x68 ∷ 0x6f ∷ 0x72 ∷ 0x74 ∷ 0x20 ∷ []
 kind_word (ok (negotiate bits)) = 0x76 ∷ 0x6e ∷ 0x65 ∷ 0x67 ∷ 0x20 ∷ []
 
-unfoldable pub refusal_in : Answer Header → ℕ
+abbrev pub refusal_in : Answer Header → ℕ
 refusal_in (no k) = k
 refusal_in (ok h) = 0
 
@@ -57,7 +57,7 @@ unfoldable pub dump_text : List ℕ → List ℕ
 dump_text s = lines_of (length s) (walk_at s 0 (1 ∷ []) false)
 
 -- where the next step is
-unfoldable pub next_of : Met → Option ℕ
+abbrev pub next_of : Met → Option ℕ
 next_of at_end = none
 next_of (packet start len) = some (start + len)
 next_of (refused_at start) = none

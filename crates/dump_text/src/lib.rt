@@ -3,24 +3,17 @@
 
 ghost use Rattle.std.specs.Prelude.{◌≡◌, ◌+◌, ◌≤◌, length, ltb};
 ghost use Rattle.coding.specs.Words.{ok};
-ghost use Rattle.coding.specs.Said.{wrote_of};
+ghost use Rattle.coding.specs.Said.{answer_of};
 ghost use Rattle.coding.specs.Writing.{Put, Written};
-ghost use Rattle.packet.specs.Said.{header_of, outcome_of};
-ghost use Rattle.dump_text.specs.Dump.{number_then, kind_word, refusal_in, packet_line, refused_line, total_line, dump_text};
+ghost use Rattle.packet.specs.Said.{header_of, decoded_of};
+ghost use Rattle.dump_text.specs.Dump.{number_then, kind_word, packet_line, refused_line, total_line, dump_text};
 ghost use Rattle.dump_text.specs.Turns.{line_at, Turned, place_after, Roomy, AllPut};
 
-use coding::{Place, Refusal, Wrote};
-use packet::{Decoded, Found, ProtectedHeader};
+use coding::{Place, Refusal};
+use packet::{LongType, ProtectedHeader, Stepped};
 
 // No line is longer than this, whatever the numbers in it.
 const MAX_LINE: usize = 80;
-
-// The place in the datagram where the next step is, where there is one, and the place past the text so far.
-#[derive(Clone, Copy)]
-enum Turn {
-    More(usize, usize),
-    Done(usize),
-}
 
 // A number and the character after it.
 fn put_word(buf: &mut [u8], at: usize, x: u64, after: u8) -> usize
@@ -28,58 +21,47 @@ fn put_word(buf: &mut [u8], at: usize, x: u64, after: u8) -> usize
     ensures { Put (number_then x after) buf.old at result buf.new }
 {
     let next = text::put_decimal(buf, at, x);
-    coding::put_u8(buf, next, after)
+    coding::put(buf, next, after)
 }
 
 // A packet's kind and a space.
-fn put_kind(buf: &mut [u8], at: usize, header: ProtectedHeader) -> usize
-    ensures { Put (kind_word (header_of header)) buf.old at result buf.new }
+fn kind_word(header: ProtectedHeader) -> &'static [u8]
+    ensures { result.now ≡ kind_word (ok (header_of header)) }
 {
     match header {
-        ProtectedHeader::Initial { token: _, len: _ } => coding::put_slice(buf, at, b"initial "),
-        ProtectedHeader::Long { ty, len: _ } => match ty {
-            packet::LongType::Handshake => coding::put_slice(buf, at, b"handshake "),
-            packet::LongType::ZeroRtt => coding::put_slice(buf, at, b"0rtt "),
-        },
-        ProtectedHeader::Retry => coding::put_slice(buf, at, b"retry "),
-        ProtectedHeader::Short { spin: _ } => coding::put_slice(buf, at, b"short "),
-        ProtectedHeader::VersionNegotiate { random: _ } => coding::put_slice(buf, at, b"vneg "),
-        ProtectedHeader::Refused(_) => at,
+        ProtectedHeader::Initial { .. } => b"initial ",
+        ProtectedHeader::Long {
+            ty: LongType::Handshake,
+            ..
+        } => b"handshake ",
+        ProtectedHeader::Long {
+            ty: LongType::ZeroRtt,
+            ..
+        } => b"0rtt ",
+        ProtectedHeader::Retry => b"retry ",
+        ProtectedHeader::Short { .. } => b"short ",
+        ProtectedHeader::VersionNegotiate { .. } => b"vneg ",
     }
 }
 
-// A refusal's number, or 0.
-fn refusal_in(header: ProtectedHeader) -> u64
-    ensures { result ≡ refusal_in (header_of header) }
+fn put_packet(buf: &mut [u8], at: usize, x: Stepped) -> usize
+    requires { at + length (packet_line x.packet.start x.packet.len (decoded_of x.plain_header)) ≤ length buf.old }
+    ensures { Put (packet_line x.packet.start x.packet.len (decoded_of x.plain_header)) buf.old at result buf.new }
 {
-    match header {
-        ProtectedHeader::Initial { token: _, len: _ } => 0,
-        ProtectedHeader::Long { ty: _, len: _ } => 0,
-        ProtectedHeader::Retry => 0,
-        ProtectedHeader::Short { spin: _ } => 0,
-        ProtectedHeader::VersionNegotiate { random: _ } => 0,
-        ProtectedHeader::Refused(why) => why.number() as u64,
-    }
+    let Place { start, len } = x.packet;
+    let a = put_word(buf, at, start as u64, b' ');
+    let b = put_word(buf, a, len as u64, b' ');
+    let c = coding::put_slice(buf, b, kind_word(x.plain_header.header));
+    put_word(buf, c, x.plain_header.number_offset as u64, b'\n')
 }
 
-fn put_packet(buf: &mut [u8], at: usize, place: Place, plain: Decoded) -> usize
-    requires { at + length (packet_line place.start place.len (outcome_of plain)) ≤ length buf.old }
-    ensures { Put (packet_line place.start place.len (outcome_of plain)) buf.old at result buf.new }
-{
-    let header = plain.header;
-    let a = put_word(buf, at, place.start as u64, b' ');
-    let b = put_word(buf, a, place.len as u64, b' ');
-    let c = put_kind(buf, b, header);
-    put_word(buf, c, plain.number_offset as u64, b'\n')
-}
-
-fn put_refused(buf: &mut [u8], at: usize, start: usize, number: u64) -> usize
+fn put_refused(buf: &mut [u8], at: usize, start: usize, number: u8) -> usize
     requires { at + length (refused_line start number) ≤ length buf.old }
     ensures { Put (refused_line start number) buf.old at result buf.new }
 {
     let a = coding::put_slice(buf, at, b"refused ");
     let b = put_word(buf, a, start as u64, b' ');
-    put_word(buf, b, number, b'\n')
+    put_word(buf, b, number as u64, b'\n')
 }
 
 fn put_end(buf: &mut [u8], at: usize, total: usize) -> usize
@@ -90,24 +72,21 @@ fn put_end(buf: &mut [u8], at: usize, total: usize) -> usize
     put_word(buf, a, total as u64, b'\n')
 }
 
-// One step of the walk, and its line.
-fn put_step(s: &[u8], at: usize, buf: &mut [u8], p: usize) -> Turn
+// One step of the walk, and its line: the place in the datagram where the next step is, where there is one, and the place past
+// the text so far.
+fn put_step(s: &[u8], at: usize, buf: &mut [u8], p: usize) -> (Option<usize>, usize)
     requires { p + length (line_at s.now at) ≤ length buf.old }
     ensures { Turned s.now at buf.old p result buf.new }
 {
-    let versions = [1u32];
-    let stepped = packet::step(s, at, 0, &versions, false);
-    let plain = stepped.plain_header;
-    let found = stepped.found;
-    match found {
-        Found::End => Turn::Done(put_end(buf, p, s.len())),
-        Found::Packet(place) => {
-            let next = place.start + place.len;
-            Turn::More(next, put_packet(buf, p, place, plain))
+    match packet::step(s, at, 0, &[1], false) {
+        Ok(None) => (None, put_end(buf, p, s.len())),
+        Ok(Some(x)) => {
+            let next = x.packet.start + x.packet.len;
+            (Some(next), put_packet(buf, p, x))
         }
-        Found::Refused(start) => {
-            let header = plain.header;
-            Turn::Done(put_refused(buf, p, start, refusal_in(header)))
+        Err(e) => {
+            let number = e.why.refusal().number();
+            (None, put_refused(buf, p, e.start, number))
         }
     }
 }
@@ -116,10 +95,7 @@ fn put_step(s: &[u8], at: usize, buf: &mut [u8], p: usize) -> Turn
 fn place_after(anew: bool, q: usize) -> usize
     ensures { result ≡ place_after anew q }
 {
-    if anew {
-        return 0;
-    }
-    q
+    if anew { 0 } else { q }
 }
 
 // Puts the lines of a datagram one after the other, or each at the start of the buffer, and answers how long they are together.
@@ -131,17 +107,13 @@ fn put_lines(s: &[u8], buf: &mut [u8], anew: bool) -> usize
     let mut p = 0;
     let mut n = 0;
     loop {
-        let t = put_step(s, at, buf, p);
-        match t {
-            Turn::More(next, q) => {
-                at = next;
-                n += q - p;
-                p = place_after(anew, q);
-            }
-            Turn::Done(q) => {
-                return n + (q - p);
-            }
-        }
+        let (next, q) = put_step(s, at, buf, p);
+        n += q - p;
+        let Some(place) = next else {
+            return n;
+        };
+        at = place;
+        p = place_after(anew, q);
     }
 }
 
@@ -158,20 +130,18 @@ fn text_len(s: &[u8]) -> usize
 fn is_short(s: &[u8], room: usize) -> bool
     ensures { result ≡ ltb room (length (dump_text s.now)) }
 {
-    if s.len() <= room / 4 {
-        if 64 <= room - 4 * s.len() {
-            return false;
-        }
+    if s.len() <= room / 4 && 64 <= room - 4 * s.len() {
+        return false;
     }
     room < text_len(s)
 }
 
 // The whole text of a datagram, from byte 0 of buf on.
-pub fn dump(s: &[u8], buf: &mut [u8]) -> Wrote
-    ensures { Written (ok (dump_text s.now)) buf.old (wrote_of result) buf.new }
+pub fn dump(s: &[u8], buf: &mut [u8]) -> Result<usize, Refusal>
+    ensures { Written (ok (dump_text s.now)) buf.old (answer_of result) buf.new }
 {
     if is_short(s, buf.len()) {
-        return Wrote::Refused(Refusal::Room);
+        return Err(Refusal::Room);
     }
-    Wrote::Len(put_lines(s, buf, false))
+    Ok(put_lines(s, buf, false))
 }

@@ -6,6 +6,4 @@ use Rattle.dump_text.proofs.put_word.Goals as goal
 
 pub returns : goal.returns
 unfolding number_then
-returns c =
-    let a = c.args in
-    two _ _ c.requires c.put_decimal-next.ensures (rw (one_byte a.after (omega arith)) at c.put_u8.ensures)
+returns c = two _ _ c.requires c.put_decimal-next.ensures (rw (one_byte c.args.after (omega arith)) at c.put.ensures)
