@@ -1,9 +1,9 @@
 """statements: what the proofs and definitions of the tree declare, and who cites it, for tools/proof.
 
 A declaration is `name : type` at the left edge of a file or of a module in it, with the clauses after it. It is cited by another
-declaration or list of its file, by a file that brings its name in and uses it, or by a contract in src/. Not looked at: the parts of
-records and data, the answers and invariants below proofs/FN/, whose names the check asks for, and lines `f_once`, which `proof once` holds
-to their functions.
+declaration or list of its file, by a file that brings its name in and uses it, or in src/ by a contract or by an attribute that says what
+to unfold or to use (`#[tactic(auto, using(crate::proofs::Laws::f))]`). Not looked at: the parts of records and data, the answers and
+invariants below proofs/FN/, whose names the check asks for, and lines `f_once`, which `proof once` holds to their functions.
 A local name that is the same counts as a cite.
 """
 import collections
@@ -73,6 +73,14 @@ def brought(text):
             yield path_of(m), name
 
 
+def attributed(file, text):
+    """(file, name) of each statement of ours that an attribute of a file of src/ names."""
+    for said in re.findall(r'#!?\[tactic\((.*?)\)\]', text, re.S):
+        for crate, part, path in re.findall(r'\b(\w+)::(specs|proofs)::([^\s,()]+)', said):
+            *modules, name = path.split('::')
+            yield f'crates/{file.split("/")[1] if crate == "crate" else crate}/{part}/{"/".join(modules)}.antt', name
+
+
 def path_of(m):
     return f'crates/{m[1]}/{m[2]}/{m[3].replace(".", "/")}.antt'
 
@@ -83,7 +91,9 @@ def declared():
     cited = {cite for text in files.values() for cite in brought(text)}
     contracts = set()
     for f in glob.glob('crates/*/src/**/*.rt', recursive=True):
-        contracts |= set(WORDS.split(re.sub(r'//[^\n]*', '', open(f).read())))
+        text = re.sub(r'//[^\n]*', '', open(f).read())
+        contracts |= set(WORDS.split(text))
+        cited |= set(attributed(f, text))
     for file, text in files.items():
         if os.path.basename(file) in OF_FUNCTIONS:
             continue
