@@ -4,10 +4,7 @@ use mathlib.Core.Path.{◌≡◌, refl, sym, ap, ◌∙◌}
 use mathlib.Core.Bool.{Bool, true, false}
 use mathlib.Core.Logic.{⊎_elim}
 use native.Mathlib.Omega.{arith}
-use Rattle.std.specs.Prelude.{Option, Some, None, MatchOption, IsTrue, ltb, leb}
-use Rattle.shared.specs.declared.kinds.FullNumber.{FullNumber}
-use Rattle.number.specs.Said.{so_far_of}
-use borrow.Author.Tests.{lt-ltb, le-ltb, le-leb, lt-leb, leb-true, leb-false}
+use borrow.Author.Tests.{lt-ltb, le-ltb, le-leb, lt-leb, leb-false}
 use Rattle.coding.specs.Words.{Answer, no, ok}
 use Rattle.shared.specs.declared.kinds.CutNumber.{CutNumber}
 use Rattle.number.specs.Cutting.{cut_made}
@@ -51,20 +48,6 @@ module _ (e : Ends) where
   pub receive_past : receive_end e ≡ false → 2 ^ 62 < expected_of e.largest
   unfolding receive_end
   receive_past t = leb-false _ _ t
-
-  pub receive_within : receive_end e ≡ true → expected_of e.largest ≤ 2 ^ 62
-  unfolding receive_end
-  receive_within t = leb-true _ _ t
-
--- how the code tests that no number is there, or that it is below the end
-pub none_or : (o : Option FullNumber) (r : Bool) (n : ℕ) {P : FullNumber → Type 0} → MatchOption o (IsTrue r) P
-    → ((m : FullNumber) → P m → r ≡ ltb m.0 n) → r ≡ leb (expected_of (so_far_of o)) n
-unfolding expected_of so_far_of
-none_or None r n h f = h ∙ sym (le-leb 0 n (omega arith))
-none_or (Some m) r n h f = f m h ∙ less m.0 n
-  where
-    less : (a b : ℕ) → ltb a b ≡ leb (a + 1) b
-    less a b = ⊎_elim (λ x. le-ltb a b x ∙ sym (lt-leb (a + 1) b (omega arith))) (λ x. lt-ltb a b x ∙ sym (le-leb (a + 1) b (omega arith))) (le? b a)
 
 -- ---- the cases of each call
 

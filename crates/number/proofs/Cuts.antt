@@ -12,11 +12,10 @@ use lib.Dec.{eqb}
 use borrow.Author.Tests.{lt-ltb, le-ltb, eq-eqb, ne_eqb, eqb-true, eqb-false}
 use Rattle.coding.specs.Words.{no, ok}
 use Rattle.coding.specs.Bytes.{be, bytes_be}
-use Rattle.coding.specs.Writing.{Put}
 use Rattle.coding.proofs.Laws.{length_bytes_be, pow256, Octets, octets_take, be_below}
 use Rattle.coding.proofs.Back.{be_bytes}
 use Rattle.shared.specs.declared.kinds.CutNumber.{CutNumber}
-use Rattle.number.specs.Cutting.{cut, window_of, is_cut, bytes_for, cut_to, cut_made, length_bits, cut_tag, cut_bytes, cut_out, cut_put, first_cut, cut_read}
+use Rattle.number.specs.Cutting.{cut, window_of, is_cut, bytes_for, cut_to, cut_made, cut_bytes, cut_out, cut_put, first_cut, cut_read}
 use Rattle.number.proofs.Firsts.{be_shorter}
 use Rattle.number.proofs.Windows.{le?, bytes_power, Window, window_made, Fit, bytes_fit, cut_rule}
 
@@ -86,10 +85,6 @@ cut_kept {n} {acked} {c} i =
 
 module _ (c : CutNumber) where
   module _ (e : is_cut c ≡ true) where
-    pub tag_in : ok (length_bits c) ≡ cut_tag c
-    unfolding cut_tag
-    tag_in = rw e
-
     pub out_in : cut_out c ≡ ok (cut_bytes c)
     unfolding cut_out
     out_in = rw e
@@ -99,10 +94,6 @@ module _ (c : CutNumber) where
     put_in = rw e
 
   module _ (e : is_cut c ≡ false) where
-    pub tag_out : no 14 ≡ cut_tag c
-    unfolding cut_tag
-    tag_out = rw e
-
     pub out_out : cut_out c ≡ no 14
     unfolding cut_out
     out_out = rw e
@@ -112,11 +103,6 @@ module _ (c : CutNumber) where
     put_out = rw e
 
 -- ---- bytes
-
--- a put of as many bytes as it has
-pub put_length : (c : CutNumber) {n x : ℕ} {old new : List ℕ} {at next : ℕ} → is_cut c ≡ true → c.0 ≡ n → x ≡ c.1 → Put (bytes_be n x) old at next new
-    → Put (cut_put c) old at next new
-put_length c i e v p = rw (put_in c i, e, ← v) p
 
 module _ (k : ℕ) (bs : List ℕ) where
   pub read_few : k < 1 → no 14 ≡ cut_read k bs

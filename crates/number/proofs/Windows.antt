@@ -9,7 +9,7 @@ use native.Mathlib.Nat.{two-pow-succ, pow-succ'}
 use native.Mathlib.Omega.{arith}
 use lib.Dec.{leb, ltb, eqb}
 use lib.Pow.{pow_mono, pow-add}
-use borrow.Author.Tests.{leb-true, leb-false, ltb-true, ltb-false, eqb-true, eqb-false, lt-ltb, le-ltb, ne_eqb}
+use borrow.Author.Tests.{leb-true, leb-false, ltb-true, ltb-false, eqb-false, lt-ltb, le-ltb, ne_eqb}
 use Rattle.shared.specs.declared.kinds.CutNumber.{CutNumber}
 use Rattle.number.specs.Cutting.{window_of, is_cut, first_fit, bytes_for}
 use Rattle.number.specs.Said.{fitting}
@@ -142,13 +142,6 @@ fitting_is k t e = go (eqb t 0) refl
     go : (b : Bool) → eqb t 0 ≡ b → (k ≡ t) × (k ≡ 0 → ⊥)
     go true z = let q : Some k ≡ None = e ∙ simp z in absurd cc
     go false z = let q : Some k ≡ Some t = e ∙ simp z in let s : k ≡ t = cc in (s, λ x. eqb-false t 0 z (sym s ∙ x))
-
-pub fitting_none : (t : ℕ) → None ≡ fitting t → t ≡ 0
-fitting_none t e = go (eqb t 0) refl
-  where
-    go : (b : Bool) → eqb t 0 ≡ b → t ≡ 0
-    go true z = eqb-true t 0 z
-    go false z = let q : None ≡ Some t = e ∙ simp z in absurd cc
 
 pub bytes_fit : (t : ℕ) → (bytes_for t ≡ 0 → ⊥) → Fit 1 (bytes_for t) t
 unfolding bytes_for

@@ -1,6 +1,8 @@
 // The two number ends of a space, in one record. A refused call leaves the record as it was. Each call looks at its own end
 // alone: sending and acknowledging at next and acked, reading and accepting at largest; an end that no calls can have made
 // is 14.
+#![tactic(auto, unfolding(crate::specs::Ends::base_of, crate::specs::Ends::expected_of, crate::specs::Ends::larger_of, crate::specs::Ends::send_end, crate::specs::Ends::receive_end, crate::specs::Ends::send_with, crate::specs::Ends::send_by, crate::specs::Ends::acknowledge_by, crate::specs::Ends::read_by, crate::specs::Ends::accept_by, crate::specs::Said::full_of, crate::specs::Said::so_far_of, crate::specs::Said::sent_of, crate::specs::Said::kept_of))]
+
 ghost use Rattle.std.specs.Prelude.{◌≡◌};
 ghost use Rattle.number.specs.Ends.{base_of, larger_of, send_end, receive_end, fresh_ends, send_by, acknowledge_by, read_by, accept_by};
 ghost use Rattle.number.specs.Said.{full_of, so_far_of, ends_of, sent_of, kept_of};

@@ -1,6 +1,6 @@
 // Packet numbers, cut and read back (packet.rs, PacketNumber; RFC 9000, 17.1 and A.3). A cut number outside its kind's
 // rule is refused 14 by whatever can refuse.
-#![tactic(auto)]
+#![tactic(auto, unfolding(coding::specs::Said::answer_of, crate::specs::Cutting::window_of, crate::specs::Cutting::is_cut, crate::specs::Cutting::cut_to, crate::specs::Cutting::cut_made, crate::specs::Cutting::cut_tag, crate::specs::Cutting::cut_put, crate::specs::Cutting::cut_read, crate::specs::Expanding::decode_a3, crate::specs::Expanding::expanded, crate::specs::Said::full_of))]
 
 mod ends; // ends.rt: the two number ends of a space
 
