@@ -47,36 +47,26 @@ module _ (s : List ℕ) (at count mixed : ℕ) where
     unfolding gathered_from vars_from and_then
     vars_on v next e = rw (turn, lt-ltb at (length s) k, e)
 
--- ---- the numbers of a slice, each by what f says
+-- ---- the items of a slice, each by what f says
 
-module _ (f : ℕ → Answer ℕ) (xs : List ℕ) (i mixed : ℕ) where
+module _ {A : Type 0} (f : A → Answer ℕ) (xs : List A) (i mixed : ℕ) where
   -- none is left
-  pub none : i ≤ length xs → length xs ≤ i → gathered_from (map f (drop i xs)) i mixed ≡ record { refusal = 0; count = i; mixed = mixed }
+  pub none : i ≤ length xs → length xs ≤ i → gathered_from (map f (drop i xs)) i mixed ≡ record { refusal = 0; count = length xs; mixed = mixed }
   unfolding gathered_from
   none h k = let e : i ≡ length xs = omega arith in rw (e, drop-length)
 
-  module _ (h : i < length xs) where
-    one : map f (drop i xs) ≡ f (get_or xs i 0) ∷ map f (drop (i + 1) xs)
-    one = rw (drop-cons xs i 0 h, add-one)
+  module _ (d : A) (h : i < length xs) where
+    one : map f (drop i xs) ≡ f (get_or xs i d) ∷ map f (drop (i + 1) xs)
+    one = rw (drop-cons xs i d h, add-one)
 
-    pub stops : (k : ℕ) → f (get_or xs i 0) ≡ no k → gathered_from (map f (drop i xs)) i mixed ≡ record { refusal = k; count = i; mixed = mixed }
+    pub stops : (k : ℕ) → f (get_or xs i d) ≡ no k → gathered_from (map f (drop i xs)) i mixed ≡ record { refusal = k; count = i; mixed = mixed }
     unfolding gathered_from
     stops k e = rw (one, e)
 
-    pub goes_on : (v : ℕ) → f (get_or xs i 0) ≡ ok v
+    pub goes_on : (v : ℕ) → f (get_or xs i d) ≡ ok v
         → gathered_from (map f (drop i xs)) i mixed ≡ gathered_from (map f (drop (i + 1) xs)) (i + 1) (bit_xor mixed v)
     unfolding gathered_from
     goes_on v e = rw (one, e)
-
--- a cut number that is not read back is refused 14
-pub only_14 : (c : CutNumber) (e k : ℕ) → expanded c e ≡ no k → expanded c e ≡ no 14
-unfolding expanded
-only_14 c e k = go (is_cut c) (ltb (2 ^ 62) e) _
-  where
-    go : (t u : Bool) (n : ℕ) → (if t then (if u then no 14 else ok n) else no 14) ≡ no k → (if t then (if u then no 14 else ok n) else no 14) ≡ no 14
-    go true true n h = refl
-    go true false n h = let z : ◌≡◌ {A = ℕ} 0 1 = cc in absurd (omega arith)
-    go false u n h = refl
 
 -- ---- writers
 

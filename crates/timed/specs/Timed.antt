@@ -1,9 +1,11 @@
 -- What the functions that bench/ times answer: the records over the definitions of the crates below.
-use Rattle.std.specs.Prelude.{ℕ, zero, suc, ◌+◌, ◌*◌, ◌^◌, ◌≡◌, List, [], ◌∷◌, map, length, ltb, if◌then◌else◌}
+use Rattle.std.specs.Prelude.{ℕ, zero, suc, ◌+◌, ◌*◌, ◌^◌, ◌≡◌, List, [], ◌∷◌, map, length, ltb, if◌then◌else◌, Result}
 use Rattle.std.specs.Int.Bits.{bit_xor}
 use Rattle.coding.specs.Words.{and_then, Answer, no, ok}
+use Rattle.coding.specs.Said.{answer_of}
 use Rattle.coding.specs.Varint.{var_at}
 use Rattle.coding.specs.Writing.{in_room, length_of, into_buffer}
+use Rattle.coding.specs.declared.refusal.Refusal.{Refusal}
 use Rattle.shared.specs.declared.kinds.CutNumber.{CutNumber}
 use Rattle.number.specs.Cutting.{cut, cut_made}
 use Rattle.number.specs.Expanding.{expanded}
@@ -42,6 +44,10 @@ cuts_of acked ns = map (λ n. cut_said (cut_made n acked)) ns
 -- cut ones of k bytes, each read back by the expected one
 abbrev pub fulls_of : ℕ → ℕ → List ℕ → List (Answer ℕ)
 fulls_of k expected vs = map (λ v. expanded (cut k v) expected) vs
+
+-- what is answered of each item is what f says of it
+abbrev pub Tells : {T : Type 0} → (T → Result ℕ Refusal → Type 0) → (T → Answer ℕ) → Type 0
+Tells {T} post f = (x : T) (r : Result ℕ Refusal) → post x r → answer_of r ≡ f x
 
 -- ---- writers
 

@@ -3,21 +3,22 @@
 // else document 01's number.
 #![tactic(auto)]
 
-ghost use Rattle.std.specs.Prelude.{◌≡◌, eqb};
+ghost use Rattle.std.specs.Prelude.{◌≡◌, eqb, map};
 ghost use Rattle.std.proofs.Math.Option.{none};
 ghost use Rattle.coding.specs.Words.{ok};
-ghost use Rattle.coding.specs.Said.{wrote_of};
+ghost use Rattle.coding.specs.Said.{answer_of};
+ghost use Rattle.number.specs.Cutting.{cut, cut_made};
+ghost use Rattle.number.specs.Expanding.{expanded};
 ghost use Rattle.row_out.specs.Writing.{number};
 ghost use Rattle.frame_out.specs.Frames.{meta_out, crypto_out, reset_stream_out, new_cid_out};
 ghost use Rattle.frame_out.specs.Closes.{connection, close_out};
 ghost use Rattle.ack_out.specs.Acks.{ack_out};
 ghost use Rattle.dump_text.specs.Dump.{dump_text};
-ghost use Rattle.timed.specs.Timed.{gathered, vars_of, cuts_of, fulls_of, write_record, flagged, Writes};
+ghost use Rattle.timed.specs.Timed.{gathered, vars_of, cut_said, cuts_of, fulls_of, Tells, write_record, flagged, Writes};
 
-use coding::{Refusal, VarRead, Wrote};
-use frame::{AckEcn, ResetStream, TypeRead};
+use coding::Refusal;
+use frame::ResetStream;
 use frame_out::StreamMeta;
-use number::{CutMade, FullRead};
 use shared::{ConnectionId, CutNumber, FrameType, FullNumber, StreamId};
 
 // What came before the end or a refusal: how many, and the exclusive or of all.
@@ -37,7 +38,7 @@ pub struct WriteAnswer {
     pub len: usize,
 }
 
-// Reads integers from byte 0 on until the slice ends; where one is cut, 10.
+// Reads integers from byte 0 on until the slice ends; where one is cut, 10. Each has its own length, so the place goes on by that.
 #[unsafe(no_mangle)]
 pub extern "C" fn guobbarel_timed_read_vars(bytes: &[u8]) -> GatheredAnswer
     ensures { result ≡ gathered (vars_of bytes.now) }
@@ -46,14 +47,14 @@ pub extern "C" fn guobbarel_timed_read_vars(bytes: &[u8]) -> GatheredAnswer
     let mut count = 0;
     let mut mixed = 0;
     while at < bytes.len() {
-        let VarRead::Var(v, next) = coding::get_var(bytes, at) else {
+        let Ok((v, next)) = coding::get_var(bytes, at) else {
             return GatheredAnswer {
                 refusal: 10,
                 count,
                 mixed,
             };
         };
-        mixed = mixed ^ v.0;
+        mixed ^= v.0;
         count += 1;
         at = next;
     }
@@ -64,19 +65,16 @@ pub extern "C" fn guobbarel_timed_read_vars(bytes: &[u8]) -> GatheredAnswer
     }
 }
 
-// Numbers to be sent, each cut by the largest acknowledged; a cut one counts by its value, with its length above its four bytes.
-#[unsafe(no_mangle)]
-pub extern "C" fn guobbarel_timed_cut(numbers: &[u64], acked: u64) -> GatheredAnswer
-    ensures { result ≡ gathered (cuts_of acked numbers.now) }
+// What `each` says of the items, up to the first that it refuses.
+fn gather<T: Copy, F: Fn(T) -> Result<u64, Refusal>>(items: &[T], each: F) -> GatheredAnswer
+    requires { F.IsAlwaysCallable each }
+    ensures { (f : _) → Tells (F.post each) f → result ≡ gathered (map f items.now) }
 {
-    let mut count = 0;
     let mut mixed = 0;
-    while count < numbers.len() {
-        match number::new(FullNumber(numbers[count]), FullNumber(acked)) {
-            CutMade::Cut(c) => {
-                mixed = mixed ^ (c.1 as u64 + c.0 as u64 * 0x1_0000_0000);
-            }
-            CutMade::Refused(why) => {
+    for (count, item) in items.iter().enumerate() {
+        match each(*item) {
+            Ok(v) => mixed ^= v,
+            Err(why) => {
                 return GatheredAnswer {
                     refusal: why.number(),
                     count,
@@ -84,16 +82,39 @@ pub extern "C" fn guobbarel_timed_cut(numbers: &[u64], acked: u64) -> GatheredAn
                 };
             }
         }
-        count += 1;
     }
     GatheredAnswer {
         refusal: 0,
-        count,
+        count: items.len(),
         mixed,
     }
 }
 
-// The full number of each cut one of `len` bytes, by the expected one; where one is refused, 14.
+// A number cut by the largest acknowledged, as one: its value, with its length above the value's four bytes.
+fn cut_as_one(n: u64, acked: u64) -> Result<u64, Refusal>
+    ensures { answer_of result ≡ cut_said (cut_made n acked) }
+{
+    let CutNumber(len, value) = number::new(FullNumber(n), FullNumber(acked))?;
+    Ok(u64::from(value) + len as u64 * 0x1_0000_0000)
+}
+
+// Numbers to be sent, each cut by the largest acknowledged.
+#[unsafe(no_mangle)]
+pub extern "C" fn guobbarel_timed_cut(numbers: &[u64], acked: u64) -> GatheredAnswer
+    ensures { result ≡ gathered (cuts_of acked numbers.now) }
+{
+    gather(numbers, |n| cut_as_one(n, acked))
+}
+
+// The full number of a cut one of `len` bytes, by the expected one.
+fn full(value: u32, len: usize, expected: u64) -> Result<u64, Refusal>
+    ensures { answer_of result ≡ expanded (cut len value) expected }
+{
+    let FullNumber(n) = number::expand(CutNumber(len, value), expected)?;
+    Ok(n)
+}
+
+// The full number of each cut one; where one is refused, 14.
 #[unsafe(no_mangle)]
 pub extern "C" fn guobbarel_timed_expand(
     values: &[u32],
@@ -102,36 +123,20 @@ pub extern "C" fn guobbarel_timed_expand(
 ) -> GatheredAnswer
     ensures { result ≡ gathered (fulls_of len expected values.now) }
 {
-    let mut count = 0;
-    let mut mixed = 0;
-    while count < values.len() {
-        let FullRead::Number(n) = number::expand(CutNumber(len, values[count]), expected) else {
-            return GatheredAnswer {
-                refusal: 14,
-                count,
-                mixed,
-            };
-        };
-        mixed = mixed ^ n.0;
-        count += 1;
-    }
-    GatheredAnswer {
-        refusal: 0,
-        count,
-        mixed,
-    }
+    gather(values, |value| full(value, len, expected))
 }
 
-// A writer's answer as a record.
-fn written(w: Wrote) -> WriteAnswer
-    ensures { result ≡ write_record (wrote_of w) }
-{
-    match w {
-        Wrote::Len(len) => WriteAnswer { refusal: 0, len },
-        Wrote::Refused(why) => WriteAnswer {
-            refusal: why.number(),
-            len: 0,
-        },
+impl From<Result<usize, Refusal>> for WriteAnswer {
+    ghost from_gives = { λ w answer. answer ≡ write_record (answer_of w) };
+
+    fn from(w: Result<usize, Refusal>) -> WriteAnswer {
+        match w {
+            Ok(len) => WriteAnswer { refusal: 0, len },
+            Err(why) => WriteAnswer {
+                refusal: why.number(),
+                len: 0,
+            },
+        }
     }
 }
 
@@ -149,7 +154,7 @@ pub extern "C" fn guobbarel_timed_reset_stream(
         error_code,
         final_offset,
     };
-    written(frame_out::reset_stream(frame, out))
+    frame_out::reset_stream(frame, out).into()
 }
 
 // A flag above 1 is 14.
@@ -164,11 +169,8 @@ pub extern "C" fn guobbarel_timed_stream_meta(
 ) -> WriteAnswer
     ensures { Writes (flagged fin (flagged has_length (meta_out id start end (eqb fin 1) (eqb has_length 1)))) out.old result out.new }
 {
-    if 1 < fin {
-        return written(Wrote::Refused(Refusal::Argument));
-    }
-    if 1 < has_length {
-        return written(Wrote::Refused(Refusal::Argument));
+    if 1 < fin || 1 < has_length {
+        return Err(Refusal::Argument).into();
     }
     let meta = StreamMeta {
         id: StreamId(id),
@@ -176,14 +178,14 @@ pub extern "C" fn guobbarel_timed_stream_meta(
         end,
         fin: fin == 1,
     };
-    written(frame_out::stream_meta(meta, has_length == 1, out))
+    frame_out::stream_meta(meta, has_length == 1, out).into()
 }
 
 #[unsafe(no_mangle)]
 pub extern "C" fn guobbarel_timed_crypto(offset: u64, data: &[u8], out: &mut [u8]) -> WriteAnswer
     ensures { Writes (crypto_out offset «data».now) out.old result out.new }
 {
-    written(frame_out::crypto(offset, data, out))
+    frame_out::crypto(offset, data, out).into()
 }
 
 // The connection id is the first id_len bytes.
@@ -202,7 +204,7 @@ pub extern "C" fn guobbarel_timed_new_connection_id(
         len: id_len,
         bytes: *id,
     };
-    written(frame_out::new_connection_id(sequence, retire_prior_to, cid, reset_token, out))
+    frame_out::new_connection_id(sequence, retire_prior_to, cid, reset_token, out).into()
 }
 
 // A frame type of 0 says that there is none.
@@ -216,8 +218,8 @@ pub extern "C" fn guobbarel_timed_connection_close(
 ) -> WriteAnswer
     ensures { Writes (close_out (connection error_code (number frame_type)) reason.now max_len) out.old result out.new }
 {
-    let ty = TypeRead::Type(FrameType(frame_type));
-    written(frame_out::connection_close(error_code, ty, reason, max_len, out))
+    let ty = Some(FrameType(frame_type));
+    frame_out::connection_close(error_code, ty, reason, max_len, out).into()
 }
 
 // Without ECN counts.
@@ -225,12 +227,12 @@ pub extern "C" fn guobbarel_timed_connection_close(
 pub extern "C" fn guobbarel_timed_ack(delay: u64, list: &[u64], out: &mut [u8]) -> WriteAnswer
     ensures { Writes (ack_out delay list.now none) out.old result out.new }
 {
-    written(ack_out::ack(delay, list, AckEcn::Nothing, out))
+    ack_out::ack(delay, list, None, out).into()
 }
 
 #[unsafe(no_mangle)]
 pub extern "C" fn guobbarel_timed_dump(datagram: &[u8], out: &mut [u8]) -> WriteAnswer
     ensures { Writes (ok (dump_text datagram.now)) out.old result out.new }
 {
-    written(dump_text::dump(datagram, out))
+    dump_text::dump(datagram, out).into()
 }

@@ -1,5 +1,4 @@
-use mathlib.Core.Path.{sym, ◌∙◌}
-use native.Mathlib.Omega.{arith}
+use Rattle.std.proofs.Common.{sym, ◌∙◌, arith}
 use Rattle.coding.specs.Said.{var_of}
 use Rattle.coding.proofs.Laws.{var_inside}
 use Rattle.timed.proofs.Laws.{start, vars_end, vars_cut, vars_on}
@@ -19,14 +18,13 @@ overflow_add-count c = omega arith
 
 pub loop-at-smaller : goal.loop-at-smaller
 unfolding var_of
-loop-at-smaller c =
-    omega (arith, var_inside _ _ _ _ (sym (rw c.in-Var.is at c.get_var.ensures)))
+loop-at-smaller c = omega (arith, var_inside _ _ _ _ (sym (rw c.in-Ok.is at c.get_var.ensures)))
 
 pub loop-at-preserved : goal.loop-at-preserved
 unfolding var_of
 loop-at-preserved c =
     let i = c.loop-at.invariant in
-    let e = sym (rw c.in-Var.is at c.get_var.ensures) in
+    let e = sym (rw c.in-Ok.is at c.get_var.ensures) in
     let v = var_inside _ _ _ _ e in
     (sym (vars_on _ _ _ _ i.1.0 c.loop-at-test.true _ _ e) ∙ i.0, (omega arith, v.1))
 
