@@ -49,6 +49,7 @@ fn filled(bytes: &[u8]) -> ConnectionId
 }
 
 impl ConnectionId {
+    // Of no bytes; by name and no Default, since it is a connection id as the others are.
     pub fn empty() -> ConnectionId
         ensures { result ≡ cid_of [] }
     {

@@ -17,7 +17,7 @@ pub enum EcnCodepoint {
 }
 
 impl EcnCodepoint {
-    // Create new object from the given bits; 00 is none.
+    // Create new object from the given bits, of which 00 is none; by name, as the Rust has it and docs/ITEMS.
     pub fn from_bits(x: u8) -> Option<EcnCodepoint>
         ensures { ecn_read_of result ≡ ecn_bits x }
     {

@@ -16,7 +16,8 @@ pub enum Side {
     Server = 1,
 }
 
-// Whether a stream communicates data in both directions or only from the initiator.
+// Whether a stream communicates data in both directions or only from the initiator; a type of its own beside Side, so that
+// neither is taken for the other.
 #[derive(Clone, Copy, PartialEq, Eq)]
 pub enum Dir {
     Bi = 0,
@@ -99,7 +100,7 @@ impl StreamId {
         Ok(StreamId(index * 4 + u64::from(dir) * 2 + u64::from(initiator)))
     }
 
-    // Which side of a connection initiated the stream.
+    // Which side of a connection initiated the stream; by name, as the Rust has it and docs/ITEMS.
     pub fn initiator(self) -> Side
         ensures { side_bit result ≡ initiator_of self.0 }
     {
@@ -110,7 +111,7 @@ impl StreamId {
         }
     }
 
-    // Which directions data flows in.
+    // Which directions data flows in; by name likewise.
     pub fn dir(self) -> Dir
         ensures { dir_bit result ≡ dir_of self.0 }
     {
@@ -129,7 +130,8 @@ impl StreamId {
     }
 }
 
-// The frame types (frame_types! of frame.rs).
+// The frame types (frame_types! of frame.rs), by the names of docs/ITEMS. Their numbers stand in types, since a match that has
+// ranges takes numbers.
 impl FrameType {
     pub const PADDING: FrameType = FrameType(types::PADDING);
 

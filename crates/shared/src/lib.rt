@@ -1,5 +1,6 @@
 // Connection ids, ECN codepoints, the kinds of number that a connection counts with (shared.rs; lib.rs), and the bits of a
-// header's first byte (packet.rs).
+// header's first byte (packet.rs). Reads take a slice and a cursor, puts a buffer and a place, as coding's do: a caller keeps the one
+// and moves the other, so that a type of both would be taken apart at each call.
 #![tactic(auto)]
 
 mod bits; // bits.rt: the bits of a header's first byte

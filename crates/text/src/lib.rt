@@ -1,4 +1,5 @@
-// Numbers and bytes as text, put into a lent buffer. As the other puts, a put that does not fit changes nothing.
+// Numbers and bytes as text, put into a lent buffer. As the other puts, a put that does not fit changes nothing. By hand and not
+// by Display, since of a write that fails fmt::Write promises nothing.
 #![tactic(auto)]
 
 ghost use Rattle.std.specs.Prelude.{◌≡◌, ◌+◌, ◌≤◌, ◌<◌, length};
@@ -15,7 +16,8 @@ fn decimal_len(x: u64) -> usize
     if x < 10 { 1 } else { x.ilog10() as usize + 1 }
 }
 
-// Stores the n digits of x from `at` on, the last one first.
+// Stores the n digits of x from `at` on, the last one first. By index, since a proof knows nothing of what iter_mut().rev()
+// wrote; and not one with coding's put_be, which base and zero as arguments would make no shorter.
 fn put_digits(buf: &mut [u8], at: usize, n: usize, x: u64)
     requires { (n ≡ length (decimal x)) × (at + n ≤ length buf.old) }
     ensures { buf.new ≡ splice buf.old at (decimal x) }
