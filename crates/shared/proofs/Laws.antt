@@ -1,19 +1,25 @@
 -- Laws of the definitions, for this crate's proofs and those above it.
-use mathlib.Core.Path.{◌≡◌, ap}
+use Rattle.std.specs.Prelude.{if◌then◌else◌}
+use mathlib.Core.Path.{◌≡◌, refl, ap, ◌∙◌}
+use mathlib.Core.Bool.{Bool, true, false}
 use mathlib.Core.List.{List, [], ◌∷◌}
 use Prim.Native.Nat.{ℕ, ◌+◌, ◌*◌, ◌/◌, ◌%◌, ◌^◌, ◌≤◌, ◌<◌}
 use native.Mathlib.Omega.{arith}
-use lib.ListN.{length, take, drop, length-take}
+use lib.ListN.{length, take, drop, length-take, length-drop}
 use lib.Dec.{leb}
-use borrow.Author.Tests.{leb-true, le-leb, lt-leb, lt-ltb}
-use Rattle.coding.specs.Words.{Got, cut, got, no, ok}
+use borrow.Author.Tests.{leb-true, leb-false, le-leb, lt-leb, lt-ltb}
+use Rattle.std.proofs.Common.{Result, Ok, Err}
+use Rattle.std.specs.Result.{result_unwrap_or}
+use Rattle.coding.specs.Words.{Got, cut, got, Answer, no, ok}
 use Rattle.coding.specs.Bytes.{bytes_be}
 use Rattle.coding.specs.Places.{part_of}
 use Rattle.coding.specs.Reading.{fixed_at, take_at}
 use Rattle.coding.specs.declared.Place.{Place}
 use Rattle.coding.proofs.Laws.{fixed_inside, take_inside}
 use Rattle.coding.proofs.Rules.{if_all, then_all}
-use Rattle.shared.specs.Cid.{long_cid_at, cid_bytes, long_bytes, long_out, cid_put, long_put}
+use Rattle.coding.specs.declared.refusal.Refusal.{Refusal}
+use Rattle.shared.specs.Said.{cid_made_of}
+use Rattle.shared.specs.Cid.{cid_of, cid_on, cid_new, no_cid, long_cid_at, cid_bytes, long_bytes, long_out, cid_put, long_put}
 use Rattle.shared.specs.Streams.{initiator_of, dir_of, index_of, stream_id, stream_made}
 use Rattle.shared.specs.declared.cid.ConnectionId.{ConnectionId}
 
@@ -26,6 +32,36 @@ part_short s p =
     if_all (λ (l : List ℕ). length l ≤ p.len) (leb (p.start + p.len) (length s)) (take p.len (drop p.start s)) []
     (λ e. simp length-take (omega arith))
     (λ e. omega arith)
+
+-- a part that is shorter than its place says has no bytes
+part_whole : (s : List ℕ) (p : Place) → length (part_of s p) < p.len → part_of s p ≡ []
+unfolding part_of
+part_whole s p =
+    if_all (λ (l : List ℕ). length l < p.len → l ≡ []) (leb (p.start + p.len) (length s)) (take p.len (drop p.start s)) []
+    (λ e h. let t : p.start + p.len ≤ length s = leb-true _ _ e in absurd (omega (arith, simp (length-take, length-drop) at h)))
+    (λ e h. refl)
+
+-- the CID of a part's bytes, the empty one where they make none
+pub part_cid : (s : List ℕ) (p : Place) (r : Result ConnectionId Refusal) → cid_made_of r ≡ cid_new (part_of s p)
+    → result_unwrap_or r (cid_of []) ≡ cid_on s p
+unfolding cid_made_of cid_new cid_on no_cid
+part_cid s p r e = made r ∙ ap (λ (z : Answer ℕ × ConnectionId). z.1) e ∙ go (leb (length l) 20) (leb p.len 20) refl refl
+  where
+    l : List ℕ
+    l = part_of s p
+
+    made : (r : Result ConnectionId Refusal) → result_unwrap_or r (cid_of []) ≡ (cid_made_of r).1
+    made (Ok c) = refl
+    made (Err why) = refl
+
+    pair : Bool → Answer ℕ × ConnectionId
+    pair a = if a then (ok (length l), cid_of l) else (no 14, cid_of [])
+
+    go : (a b : Bool) → leb (length l) 20 ≡ a → leb p.len 20 ≡ b → (pair a).1 ≡ (if b then cid_of l else cid_of [])
+    go true true e f = refl
+    go true false e f = ap cid_of (part_whole s p (omega (arith, leb-true _ _ e, leb-false _ _ f)))
+    go false true e f = absurd (omega (arith, part_short s p, leb-false _ _ e, leb-true _ _ f))
+    go false false e f = refl
 
 -- a CID that was found behind its length byte
 pub record InLong (s : List ℕ) (at : ℕ) (p : Place) (next : ℕ) : Type 0 where

@@ -1,5 +1,5 @@
 // Connection ids (shared.rs; RFC 9000, 5.1 and 17.2).
-#![tactic(auto, using(crate::proofs::Laws::part_short), unfolding(coding::specs::Words::and_then, coding::specs::Said::number_read, coding::specs::Said::read_of, crate::specs::Cid::cid_of, crate::specs::Cid::cid_on, crate::specs::Cid::long_cid_at, crate::specs::Cid::cid_new, crate::specs::Cid::cid_from, crate::specs::Cid::cid_long, crate::specs::Said::found_of, crate::specs::Said::cid_made_of, crate::specs::Said::cid_read_of))]
+#![tactic(auto, unfolding(coding::specs::Words::and_then, coding::specs::Said::number_read, coding::specs::Said::read_of, crate::specs::Cid::cid_of, crate::specs::Cid::cid_on, crate::specs::Cid::long_cid_at, crate::specs::Cid::cid_new, crate::specs::Cid::cid_from, crate::specs::Cid::cid_long, crate::specs::Said::found_of, crate::specs::Said::cid_made_of, crate::specs::Said::cid_read_of))]
 
 ghost use Rattle.std.specs.Prelude.{◌≡◌, ◌≤◌, [], length};
 ghost use Rattle.coding.specs.Said.{answer_of};
@@ -34,20 +34,6 @@ pub fn long_place(s: &[u8], at: usize) -> Option<(Place, usize)>
     coding::take(s, next, u64::from(len)).ok()
 }
 
-// The CID of these bytes.
-fn filled(bytes: &[u8]) -> ConnectionId
-    requires { length bytes.now ≤ max_cid }
-    ensures { result ≡ cid_of bytes.now }
-{
-    let len = bytes.len();
-    let mut all = [0u8; MAX_CID_SIZE];
-    all[..len].copy_from_slice(bytes);
-    ConnectionId {
-        len: len as u8,
-        bytes: all,
-    }
-}
-
 impl ConnectionId {
     // Of no bytes; by name and no Default, since it is a connection id as the others are.
     pub fn empty() -> ConnectionId
@@ -63,20 +49,23 @@ impl ConnectionId {
     pub fn at(s: &[u8], p: Place) -> ConnectionId
         ensures { result ≡ cid_on s.now p }
     {
-        if MAX_CID_SIZE < p.len {
-            return ConnectionId::empty();
-        }
-        filled(coding::part(s, p))
+        ConnectionId::new(coding::part(s, p)).unwrap_or(ConnectionId::empty())
     }
 
     // Construct cid from byte array.
     pub fn new(bytes: &[u8]) -> Result<ConnectionId, Refusal>
         ensures { cid_made_of result ≡ cid_new bytes.now }
     {
-        if MAX_CID_SIZE < bytes.len() {
+        let len = bytes.len();
+        if MAX_CID_SIZE < len {
             return Err(Refusal::Argument);
         }
-        Ok(filled(bytes))
+        let mut all = [0u8; MAX_CID_SIZE];
+        all[..len].copy_from_slice(bytes);
+        Ok(ConnectionId {
+            len: len as u8,
+            bytes: all,
+        })
     }
 
     // Constructs cid by reading `len` bytes at a cursor; answers the place past it too.
