@@ -37,6 +37,8 @@ use Rattle.cases.specs.contracts.line.Out.hex as hex
 use Rattle.cases.proofs.line.Out.hex.Reads as hex-reads
 use Rattle.cases.specs.contracts.line.Out.and_num as and-num
 use Rattle.cases.proofs.line.Out.and_num.Reads as and-num-reads
+use Rattle.cases.specs.contracts.line.Out.and_some as and-some
+use Rattle.cases.proofs.line.Out.and_some.Reads as and-some-reads
 use Rattle.cases.specs.contracts.line.Out.and_hex as and-hex
 use Rattle.cases.proofs.line.Out.and_hex.Reads as and-hex-reads
 use Rattle.cases.specs.contracts.line.Out.and_nums as and-nums
@@ -141,6 +143,10 @@ hex_once κs a x y s t p q = p ∙ sym q
 and_num_once : Once and-num.ended and-num-reads.Post (λ κs x s. out_seen s.0.now)
 unfolding Once
 and_num_once κs a x y s t p q = p ∙ sym q
+
+and_some_once : Once and-some.ended and-some-reads.Post (λ κs x s. out_seen s.0.now)
+unfolding Once
+and_some_once κs a x y s t p q = p ∙ sym q
 
 and_hex_once : Once and-hex.ended and-hex-reads.Post (λ κs x s. out_seen s.0.now)
 unfolding Once

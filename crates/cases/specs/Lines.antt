@@ -1,5 +1,5 @@
 -- An answer's text, as the pieces that are put one after the other. Characters are in ASCII.
-use Rattle.std.specs.Prelude.{ℕ, List, [], ◌∷◌, ◌++◌}
+use Rattle.std.specs.Prelude.{ℕ, List, [], ◌∷◌, ◌++◌, Option, Some, None}
 use Rattle.text.specs.Decimal.{decimal}
 use Rattle.text.specs.Hex.{hex_or}
 use Rattle.cases.specs.Records.{Case, asked, ended, stopped}
@@ -14,6 +14,11 @@ hex_word = hex_or (0x2d ∷ [])
 
 unfoldable pub and_num : ℕ → List (List ℕ)
 and_num n = space ∷ decimal n ∷ []
+
+-- a number, "-" for none
+unfoldable pub and_some : Option ℕ → List (List ℕ)
+and_some (Some n) = and_num n
+and_some None = (0x20 ∷ 0x2d ∷ []) ∷ []
 
 unfoldable pub and_hex : List ℕ → List (List ℕ)
 and_hex bs = space ∷ hex_word bs ∷ []

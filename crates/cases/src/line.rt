@@ -2,7 +2,7 @@
 ghost use Rattle.std.specs.Prelude.{◌≡◌, [], ◌∷◌, Ok};
 ghost use Rattle.coding.specs.Places.{part_of};
 ghost use Rattle.text.specs.Decimal.{decimal};
-ghost use Rattle.cases.specs.Lines.{hex_word, and_num, and_hex, and_nums, nums, ok_word, end_word, end_line};
+ghost use Rattle.cases.specs.Lines.{hex_word, and_num, and_some, and_hex, and_nums, nums, ok_word, end_word, end_line};
 ghost use Rattle.cases.specs.Said.{case_of, answer_line, written_of, is_bad, wrote_line};
 ghost use Rattle.cases.specs.Out.{Told, Fresh, Spilt};
 ghost use Rattle.cases.specs.Stdio.{LineEnded};
@@ -50,12 +50,21 @@ impl Out {
         self.at = put_hex_or(&mut self.text, self.at, bytes, b"-");
     }
 
-    // A number or bytes, after a space.
+    // After a space: a number, one that may be absent, or bytes.
     pub fn and_num(&mut self, n: u64)
         ensures { Told (and_num n) self.old self.new }
     {
         self.put(b" ");
         self.num(n);
+    }
+
+    pub fn and_some(&mut self, n: Option<u64>)
+        ensures { Told (and_some n) self.old self.new }
+    {
+        match n {
+            Some(n) => self.and_num(n),
+            None => self.put(b" -"),
+        }
     }
 
     pub fn and_hex(&mut self, bytes: &[u8])
