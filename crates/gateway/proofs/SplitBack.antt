@@ -7,7 +7,7 @@ use mathlib.Core.Option.{Option, none, some}
 use Prim.Native.Nat.{ℕ, ◌+◌, ◌≤◌, ◌<◌}
 use native.Mathlib.Omega.{arith}
 use lib.ListN.{length, drop, length-drop}
-use lib.Dec.{ltb, eqb}
+use lib.Dec.{eqb}
 use borrow.Author.Tests.{le-leb, ne_eqb, eqb-true, eqb-false, leb-false}
 use Rattle.coding.specs.Words.{Answer, no, ok}
 use Rattle.coding.specs.Places.{part_of}
@@ -15,16 +15,17 @@ use Rattle.coding.specs.Reading.{take_at}
 use Rattle.coding.proofs.Rules.{if_all, then_all}
 use Rattle.shared.specs.Cid.{cid_of}
 use Rattle.shared.specs.declared.cid.ConnectionId.{ConnectionId}
-use Rattle.frame.specs.Table.{flag}
 use Rattle.packet.specs.TypeBits.{type_of}
-use Rattle.packet.specs.Header.{Header, initial, zero_rtt, handshake, retry, short, negotiate, Outcome, refused_header, outside, header_at, length_in}
+use Rattle.packet.specs.Header.{Header, Outcome, is_long, refused_header, outside, header_at, length_in}
 use Rattle.packet.specs.Split.{Split, cut_at, no_packet, split_by, split_on, split_with, split_at}
 use Rattle.packet.specs.Walk.{at_end, PacketStep, met_on, step_on, stop_at, packet_step_at}
 use Rattle.packet.proofs.Splits.{split_taken}
 use Rattle.gateway_frame.specs.Spans.{span_at}
-use Rattle.gateway.specs.Packets.{split_record, step_record}
+use Rattle.gateway.specs.Packets.{said_numbers, split_record, step_record}
 use Rattle.gateway.specs.GivesBack.{named, outcome_back, met_back, walk_step_back, SplitGivesBack, Holds, SplitHolds}
-use Rattle.gateway.proofs.Stands.{Stand, Stands, refuse_stands, header_stands}
+use Rattle.gateway.proofs.Taken.{flag_back, flag_small}
+use Rattle.gateway.proofs.Answered.{read_as}
+use Rattle.gateway.proofs.Stands.{Placed, Stand, Stands, refused, header_stands}
 
 -- ---- the records
 
@@ -40,14 +41,12 @@ module _ (s : List ℕ) (start len : ℕ) (dst src : ConnectionId) (version end 
   both : (a : Answer Header) {c d : ConnectionId} → c ≡ dst → d ≡ src → record { said = a; dst = c; src = d; version = version; end = end } ≡ saying a
   both a p q i = record { said = a; dst = p i; src = q i; version = version; end = end }
 
+  cids_back : (x : Header) (long : Bool) → is_long (ok x) ≡ long → Placed s long (saying (ok x)) → outcome_back s (split_record start len (saying (ok x))) ≡ saying (ok x)
+  cids_back x true e p = let r = read_as x in rw (r.back start len (saying (ok x)), r.form, e, r.done) (both _ p.to p.from)
+  cids_back x false e p = let r = read_as x in rw (r.back start len (saying (ok x)), r.form, e) (both _ p.to (none_back s ∙ sym p.from))
+
   said_back : (a : Answer Header) → Stand s a (saying a) → outcome_back s (split_record start len (saying a)) ≡ saying a
-  said_back (ok (initial token n)) h = both _ h.0.to h.0.from
-  said_back (ok (zero_rtt n)) h = both _ h.to h.from
-  said_back (ok (handshake n)) h = both _ h.to h.from
-  said_back (ok retry) h = both _ h.to h.from
-  said_back (ok (short true)) h = both _ h.to (none_back s ∙ sym h.from)
-  said_back (ok (short false)) h = both _ h.to (none_back s ∙ sym h.from)
-  said_back (ok (negotiate bits)) h = both _ h.to h.from
+  said_back (ok x) h = cids_back x (is_long (ok x)) refl h.0
   said_back (no k) h = rw (ne_eqb k 0 h.0) (go (eqb k 4) refl)
     where
       go : (b : Bool) → eqb k 4 ≡ b
@@ -57,23 +56,10 @@ module _ (s : List ℕ) (start len : ℕ) (dst src : ConnectionId) (version end 
 
   met_back_law : (a : Answer Header) → Stand s a (saying a) → met_back (step_record start (record { met = met_on a start len; header = saying a })) ≡ met_on a start len
   unfolding met_on
-  met_back_law (ok (initial token n)) h = refl
-  met_back_law (ok (zero_rtt n)) h = refl
-  met_back_law (ok (handshake n)) h = refl
-  met_back_law (ok retry) h = refl
-  met_back_law (ok (short spin)) h = refl
-  met_back_law (ok (negotiate bits)) h = refl
+  met_back_law (ok x) h = let k : (said_numbers (ok x)).kind ≡ 6 → ⊥ = λ e. omega (arith, e, (read_as x).few) in rw (ne_eqb (said_numbers (ok x)).kind 6 k)
   met_back_law (no k) h = rw (ne_eqb k 0 h.0)
 
 -- ---- a step of the walk
-
-pub flag_back : (b : Bool) → eqb (flag b) 1 ≡ b
-flag_back true = refl
-flag_back false = refl
-
-pub flag_small : (b : Bool) → ltb 1 (flag b) ≡ false
-flag_small true = refl
-flag_small false = refl
 
 -- a split's header is the one that was read, or refusal 7
 split_header : (P : Outcome → Type 0) (s : List ℕ) (local : ℕ) (versions : List ℕ) (grease : Bool) → P (header_at s local versions grease) → P (refused_header 7)
@@ -114,19 +100,18 @@ module _ (s : List ℕ) (at : ℕ) where
   abbrev Back : PacketStep → Type 0
   Back x = walk_step_back s (step_record at x) ≡ x
 
-  stop_back : (k : ℕ) → (k ≡ 0 → ⊥) → (k ≡ 4 → ⊥) → Back (stop_at at k)
-  unfolding stop_at met_on refused_header
-  stop_back k z f = outcome_back_law 0 (refused_header k) (refuse_stands (drop at s) k z f)
+  stop_back : (k : ℕ) → eqb k 0 ≡ false → eqb k 4 ≡ false → Back (stop_at at k)
+  unfolding stop_at met_on
+  stop_back k z f = outcome_back_law 0 (refused_header k) (refused (drop at s) k z f)
 
   end_back : Back (record { met = at_end; header = refused_header 1 })
-  unfolding refused_header
   end_back i = record { met = at_end; header = both (drop at s) at 0 (cid_of []) (cid_of []) 0 0 (no 1) (none_back (drop at s)) (none_back (drop at s)) i }
 
   module _ (local : ℕ) (versions : List ℕ) (grease : Bool) where
     split_stands : Stands (drop at s) (split_at (drop at s) local versions grease).header
     split_stands =
         split_header (Stands (drop at s)) (drop at s) local versions grease (header_stands (drop at s) type_of local versions grease)
-        (refuse_stands (drop at s) 7 (λ z. omega (arith, z)) (λ z. omega (arith, z)))
+        (refused (drop at s) 7 refl refl)
 
     step_back : walk_step_back s (step_record at (packet_step_at s at local versions grease)) ≡ packet_step_at s at local versions grease
     unfolding packet_step_at step_on
@@ -134,8 +119,8 @@ module _ (s : List ℕ) (at : ℕ) where
         let x : Split = split_at (drop at s) local versions grease in
         let ended : PacketStep = if leb (length s) at then past else step_on at x in
         if_all Back (outside s local versions) (stop_at at 14) (if eqb (length s) 0 then stop_at at 1 else ended)
-        (λ b. stop_back 14 (λ z. omega (arith, z)) (λ z. omega (arith, z))) (λ b.
-        if_all Back (eqb (length s) 0) (stop_at at 1) ended (λ c. stop_back 1 (λ z. omega (arith, z)) (λ z. omega (arith, z))) (λ c.
+        (λ b. stop_back 14 refl refl) (λ b.
+        if_all Back (eqb (length s) 0) (stop_at at 1) ended (λ c. stop_back 1 refl refl) (λ c.
         if_all Back (leb (length s) at) past (step_on at x) (λ d. end_back) (λ d. outcome_back_law x.packet.len x.header split_stands)))
 
 pub split_back : SplitGivesBack
@@ -146,19 +131,23 @@ split_back s at local versions grease = rw (flag_small grease, flag_back grease)
 module _ (s : List ℕ) (at len : ℕ) (dst src : ConnectionId) (version end : ℕ) (p : at + len ≤ length s) (q : end ≤ len) where
   header_holds : (x : Header) → Stand (drop at s) (ok x) (saying (drop at s) at len dst src version end (ok x))
       → Holds s (split_record at len (saying (drop at s) at len dst src version end (ok x)))
-  header_holds (initial token n) h = record { packet = p; to = omega (arith, h); from = omega (arith, h); token = omega (arith, h); number = q }
-  header_holds (zero_rtt n) h = record { packet = p; to = omega (arith, h); from = omega (arith, h); token = omega arith; number = q }
-  header_holds (handshake n) h = record { packet = p; to = omega (arith, h); from = omega (arith, h); token = omega arith; number = q }
-  header_holds retry h = record { packet = p; to = omega (arith, h); from = omega (arith, h); token = omega arith; number = q }
-  header_holds (short spin) h = record { packet = p; to = omega (arith, h); from = omega arith; token = omega arith; number = q }
-  header_holds (negotiate bits) h = record { packet = p; to = omega (arith, h); from = omega (arith, h); token = omega arith; number = q }
+  header_holds x h = by_form (is_long (ok x)) refl h.0
+    where
+      by_form : (long : Bool) → is_long (ok x) ≡ long → Placed (drop at s) long (saying (drop at s) at len dst src version end (ok x))
+          → Holds s (split_record at len (saying (drop at s) at len dst src version end (ok x)))
+      by_form true e w =
+          let r = read_as x in
+          rw (r.form, e, r.done, r.token) (record { packet = p; to = omega (arith, w); from = omega (arith, w); token = h.1; number = q })
+      by_form false e w =
+          let r = read_as x in
+          rw (r.form, e, r.token) (record { packet = p; to = omega (arith, w); from = omega arith; token = h.1; number = q })
 
 module _ (s : List ℕ) (at local : ℕ) (versions : List ℕ) (grease : Bool) where
   abbrev Inside : PacketStep → Type 0
   Inside x = (step_record at x).kind < 6 → Holds s (step_record at x)
 
   stop_inside : (k : ℕ) → Inside (stop_at at k)
-  unfolding stop_at refused_header
+  unfolding stop_at
   stop_inside k h = absurd (omega (arith, h))
 
   on_inside : (len : ℕ) (dst src : ConnectionId) (version end : ℕ) (a : Answer Header) → Stand (drop at s) a (saying (drop at s) at len dst src version end a)

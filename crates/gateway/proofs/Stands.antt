@@ -7,7 +7,8 @@ use Prim.Native.Nat.{ℕ, ◌+◌, ◌≤◌}
 use native.Mathlib.Omega.{arith}
 use lib.ListN.{length, take, drop, length-take, length-drop}
 use lib.Dec.{ltb}
-use borrow.Author.Tests.{le-leb, ltb-false}
+use borrow.Author.Tests.{le-leb, ltb-false, eqb-false}
+use Rattle.std.proofs.lemmas.Bool.{or_parts}
 use Rattle.coding.specs.Words.{Answer, no, ok, and_then}
 use Rattle.coding.specs.Places.{part_of}
 use Rattle.coding.specs.Reading.{fixed_at, take_at}
@@ -21,7 +22,8 @@ use Rattle.shared.specs.declared.cid.ConnectionId.{ConnectionId}
 use Rattle.shared.proofs.Laws.{long_inside}
 use Rattle.packet.specs.TypeBits.{PacketType}
 use Rattle.packet.specs.TypeBits as type
-use Rattle.packet.specs.Header.{Header, initial, zero_rtt, handshake, retry, short, negotiate, Outcome, refused_header, listed, unfixed, headed, initial_at, length_at, tail_at, body_at, long_at, short_at, first_at, outside, header_by}
+use Rattle.packet.specs.Split.{token_in}
+use Rattle.packet.specs.Header.{Header, zero_rtt, handshake, negotiate, Outcome, is_long, refused_header, listed, unfixed, headed, initial_at, length_at, tail_at, body_at, long_at, short_at, first_at, outside, header_by}
 
 abbrev placed : ℕ → ℕ → Place
 placed start len = record { start = start; len = len }
@@ -52,21 +54,20 @@ module _ (s : List ℕ) where
     pub to : o.dst ≡ cid_of []
     pub from : o.src ≡ cid_of []
 
+  -- by the header's form
+  abbrev pub Placed : Bool → Outcome → Type 0
+  Placed true o = InLong o o.end
+  Placed false o = InShort o
+
   abbrev pub Stand : Answer Header → Outcome → Type 0
-  Stand (ok (initial token len)) o = InLong o token.start × (token.start + token.len ≤ o.end)
-  Stand (ok (zero_rtt len)) o = InLong o o.end
-  Stand (ok (handshake len)) o = InLong o o.end
-  Stand (ok retry) o = InLong o o.end
-  Stand (ok (short spin)) o = InShort o
-  Stand (ok (negotiate bits)) o = InLong o o.end
+  Stand (ok x) o = Placed (is_long (ok x)) o × ((token_in (ok x)).start + (token_in (ok x)).len ≤ o.end)
   Stand (no k) o = (k ≡ 0 → ⊥) × ((k ≡ 4 → (end : ℕ) × InLong o end) × ((k ≡ 4 → ⊥) → Unread o))
 
   abbrev pub Stands : Outcome → Type 0
   Stands o = Stand o.said o
 
-  pub refuse_stands : (k : ℕ) → (k ≡ 0 → ⊥) → (k ≡ 4 → ⊥) → Stands (refused_header k)
-  unfolding refused_header
-  refuse_stands k z f = (z, (λ e. absurd (f e), λ _. record { to = refl; from = refl }))
+  pub refused : (k : ℕ) → eqb k 0 ≡ false → eqb k 4 ≡ false → Stands (refused_header k)
+  refused k z f = (eqb-false k 0 z, (λ e. absurd (eqb-false k 4 f e), λ _. record { to = refl; from = refl }))
 
   module _ (dst src : ConnectionId) (v at : ℕ)
       (to : cid_of (part_of s (placed 6 dst.len)) ≡ dst) (from : cid_of (part_of s (placed (7 + dst.len) src.len)) ≡ src) (past : 7 + dst.len + src.len ≤ at) where
@@ -76,23 +77,23 @@ module _ (s : List ℕ) where
     length_stands : (kind : ℕ → Header) → ((len end : ℕ) → at ≤ end → Stands (headed dst src v (kind len) end)) → Stands (length_at kind (headed dst src v) s at)
     unfolding length_at
     length_stands kind f =
-        then_all Stands (var_at s at) _ _ (λ e. refuse_stands 1 (λ z. omega (arith, z)) (λ z. omega (arith, z))) (λ len end e.
+        then_all Stands (var_at s at) _ _ (λ e. refused 1 refl refl) (λ len end e.
         let i = var_inside s at len end e in
         f len end (omega (arith, i)))
 
     tail_stands : (t : PacketType) → Stands (tail_at t (headed dst src v) s at)
     unfolding tail_at initial_at headed
     tail_stands type.initial =
-        then_all Stands (var_at s at) _ _ (λ e. refuse_stands 1 (λ z. omega (arith, z)) (λ z. omega (arith, z))) (λ n start e.
-        then_all Stands (take_at n s start) _ _ (λ f. refuse_stands 5 (λ z. omega (arith, z)) (λ z. omega (arith, z))) (λ token next f.
-        then_all Stands (var_at s next) _ _ (λ g. refuse_stands 1 (λ z. omega (arith, z)) (λ z. omega (arith, z))) (λ len end g.
+        then_all Stands (var_at s at) _ _ (λ e. refused 1 refl refl) (λ n start e.
+        then_all Stands (take_at n s start) _ _ (λ f. refused 5 refl refl) (λ token next f.
+        then_all Stands (var_at s next) _ _ (λ g. refused 1 refl refl) (λ len end g.
         let i = var_inside s at n start e in
         let j = take_inside n s start token next f in
         let k = var_inside s next len end g in
-        (long _ token.start refl refl (omega (arith, i, j)), omega (arith, j, k)))))
-    tail_stands type.zero_rtt = length_stands zero_rtt (λ len end h. long _ end refl refl h)
-    tail_stands type.handshake = length_stands handshake (λ len end h. long _ end refl refl h)
-    tail_stands type.retry = long _ at refl refl (omega arith)
+        (long _ end refl refl (omega (arith, i, j, k)), omega (arith, j, k)))))
+    tail_stands type.zero_rtt = length_stands zero_rtt (λ len end h. (long _ end refl refl h, omega arith))
+    tail_stands type.handshake = length_stands handshake (λ len end h. (long _ end refl refl h, omega arith))
+    tail_stands type.retry = (long _ at refl refl (omega arith), omega arith)
 
     body_stands : (types : ℕ → ℕ → PacketType) (steer rest : ℕ) (versions : List ℕ) → Stands (body_at types steer rest s versions v dst src at)
     unfolding body_at headed
@@ -100,7 +101,7 @@ module _ (s : List ℕ) where
         let unlisted : Outcome = record { said = no 4; dst = dst; src = src; version = v; end = 0 } in
         let negotiation : Outcome = headed dst src v (negotiate (steer % 8 * 16 + rest)) at in
         let tail : Outcome = tail_at (types v (steer % 4)) (headed dst src v) s at in
-        if_all Stands (eqb v 0) negotiation (if listed versions v then tail else unlisted) (λ b. long _ at refl refl (omega arith)) (λ b.
+        if_all Stands (eqb v 0) negotiation (if listed versions v then tail else unlisted) (λ b. (long _ at refl refl (omega arith), omega arith)) (λ b.
         if_all Stands (listed versions v) tail unlisted (λ c. tail_stands (types v (steer % 4))) (λ c.
         (λ z. omega (arith, z), (λ e. (at, long _ at refl refl (omega arith)), λ e. absurd (e refl)))))
 
@@ -108,9 +109,9 @@ module _ (s : List ℕ) where
     long_stands : (steer rest : ℕ) (versions : List ℕ) → Stands (long_at types steer rest s versions)
     unfolding long_at
     long_stands steer rest versions =
-        then_all Stands (fixed_at 4 s 1) _ _ (λ e. refuse_stands 1 (λ z. omega (arith, z)) (λ z. omega (arith, z))) (λ v n e.
-        then_all Stands (long_cid_at s n) _ _ (λ f. refuse_stands 3 (λ z. omega (arith, z)) (λ z. omega (arith, z))) (λ to m f.
-        then_all Stands (long_cid_at s m) _ _ (λ g. refuse_stands 3 (λ z. omega (arith, z)) (λ z. omega (arith, z))) (λ from at g.
+        then_all Stands (fixed_at 4 s 1) _ _ (λ e. refused 1 refl refl) (λ v n e.
+        then_all Stands (long_cid_at s n) _ _ (λ f. refused 3 refl refl) (λ to m f.
+        then_all Stands (long_cid_at s m) _ _ (λ g. refused 3 refl refl) (λ from at g.
         let i = fixed_inside 4 s 1 v n e in
         let j = long_inside s n to m f in
         let k = long_inside s m from at g in
@@ -126,32 +127,30 @@ module _ (s : List ℕ) where
     short_stands : (steer local : ℕ) → local ≤ 20 → Stands (short_at steer s local)
     unfolding short_at headed
     short_stands steer local few =
-        then_all Stands (take_at local s 1) _ _ (λ e. refuse_stands 6 (λ z. omega (arith, z)) (λ z. omega (arith, z))) (λ to at e.
+        then_all Stands (take_at local s 1) _ _ (λ e. refused 6 refl refl) (λ to at e.
         let i = take_inside local s 1 to at e in
-        let a = cid_at s to (omega (arith, i, few)) (omega (arith, i)) in
-        record {
-          to = ap (λ (x : Place). cid_of (part_of s x)) (λ j. record { start = sym i.0.0 j; len = a.0 j }) ∙ a.1;
-          from = refl;
-          past = omega (arith, i, a.0);
-        })
+        let a = cid_at s to (omega (arith, i, few)) (omega (arith, i)) in (
+          record {
+            to = ap (λ (x : Place). cid_of (part_of s x)) (λ j. record { start = sym i.0.0 j; len = a.0 j }) ∙ a.1;
+            from = refl;
+            past = omega (arith, i, a.0);
+          },
+          omega arith,
+        ))
 
     pub header_stands : (local : ℕ) (versions : List ℕ) (grease : Bool) → Stands (header_by types s local versions grease)
     unfolding header_by first_at outside
     header_stands local versions grease =
         let by : ℕ → Outcome = λ first. first_at types first s local versions grease in
         let read : Outcome = and_then (fixed_at 1 s 0) (refused_header 1) (λ first n. by first) in
-        if_all Stands (outside s local versions) (refused_header 14) read (λ b. refuse_stands 14 (λ z. omega (arith, z)) (λ z. omega (arith, z))) (λ b.
-        then_all Stands (fixed_at 1 s 0) (refused_header 1) (λ first n. by first) (λ e. refuse_stands 1 (λ z. omega (arith, z)) (λ z. omega (arith, z))) (λ first n e.
+        if_all Stands (outside s local versions) (refused_header 14) read (λ b. refused 14 refl refl) (λ b.
+        then_all Stands (fixed_at 1 s 0) (refused_header 1) (λ first n. by first) (λ e. refused 1 refl refl) (λ first n e.
         let brief : Outcome = short_at (first / spin_bit) s local in
         let longer : Outcome = long_at types (first / 16) (first % 16) s versions in
-        if_all Stands (unfixed first grease) (refused_header 2) (if ltb first long_header_form then brief else longer)
-        (λ c. refuse_stands 2 (λ z. omega (arith, z)) (λ z. omega (arith, z))) (λ c.
+        if_all Stands (unfixed first grease) (refused_header 2) (if ltb first long_header_form then brief else longer) (λ c. refused 2 refl refl) (λ c.
         if_all Stands (ltb first long_header_form) brief longer (λ d. short_stands (first / spin_bit) local (within_local b)) (λ d. long_stands (first / 16) (first % 16) versions))))
       where
         within_local : outside s local versions ≡ false → local ≤ 20
-        within_local = go (ltb 65527 (length s)) (ltb 20 local) refl
-          where
-            go : (a b : Bool) → ltb 20 local ≡ b → ((a || b) || ltb 16 (length versions)) ≡ false → local ≤ 20
-            go false false e h = ltb-false _ _ e
-            go false true e h = let z : ◌≡◌ {A = ℕ} 0 1 = cc in absurd (omega arith)
-            go true b e h = let z : ◌≡◌ {A = ℕ} 0 1 = cc in absurd (omega arith)
+        within_local b =
+            let e = or_parts (ltb 65527 (length s) || ltb 20 local) (ltb 16 (length versions)) b in
+            ltb-false 20 local (or_parts (ltb 65527 (length s)) (ltb 20 local) e.0).1

@@ -8,15 +8,14 @@ use mathlib.Core.Option.{Option, none, some, Option-elim}
 use native.Mathlib.Omega.{arith}
 use lib.ListN.{length}
 use lib.Dec.{leb}
-use borrow.Author.Tests.{le-ltb, le-leb, leb-true, ne_eqb}
+use borrow.Author.Tests.{le-ltb, le-leb, leb-true, eq-eqb, ne_eqb}
 use Rattle.coding.specs.Words.{Answer, no, ok, max_datagram}
 use Rattle.coding.specs.Bytes.{byte_at}
 use Rattle.coding.specs.declared.Place.{Place}
 use Rattle.coding.proofs.Rules.{if_all}
 use Rattle.coding.proofs.Numbers.{Refuses, fourteen}
 use Rattle.shared.specs.FirstByte.{long_header_form}
-use Rattle.packet.specs.Said.{space_of}
-use Rattle.packet.specs.Header.{initial, zero_rtt, handshake, retry, short, negotiate, kind_of, is_long, space_in}
+use Rattle.packet.specs.Header.{initial, zero_rtt, handshake, retry, short, negotiate, is_long}
 use Rattle.number.specs.Cutting.{tag_length}
 use Rattle.protect.specs.Tests.{in_size, has_sample, form_bit}
 use Rattle.protect.specs.Protection.{removed}
@@ -24,16 +23,15 @@ use Rattle.protect.specs.Steps.{read_off, sample_at, opened_by, open_at, finish_
 use Rattle.protect.specs.Steps as opened
 use Rattle.gateway_frame.specs.Spans.{place_back}
 use Rattle.gateway.specs.Arguments.{long_kind, numbered_kind, kind_at}
-use Rattle.gateway.specs.Packets.{sample_record, unmask_record}
+use Rattle.gateway.specs.Packets.{sample_record, unmask_record, in_mask, unmask_at}
 use Rattle.gateway.specs.GivesBack.{sample_back, SampleGivesBack, opened_back, UnmaskGivesBack, KindsAgree}
 use Rattle.gateway.specs.declared.records.UnmaskAnswer.{UnmaskAnswer}
-use Rattle.gateway.proofs.MaskCases.{unmask_ok}
-use Rattle.gateway.proofs.SplitBack.{flag_back}
+use Rattle.gateway.proofs.Taken.{flag_back}
 
 -- ---- the kinds
 
 pub kinds_agree : KindsAgree
-unfolding long_kind kind_at space_of numbered_kind kind_of is_long space_in Option-elim
+unfolding long_kind kind_at numbered_kind Option-elim
 kinds_agree (initial token len) = (refl, refl, refl)
 kinds_agree (zero_rtt len) = (refl, refl, refl)
 kinds_agree (handshake len) = (refl, refl, refl)
@@ -145,6 +143,11 @@ module _ (s : List ℕ) (at : ℕ) (mask : List ℕ) where
   finish_back true false (ok new) f g =
       let r : leb (at + tag_length (byte_at new 0)) (length s) ≡ true = le-leb (at + tag_length (byte_at new 0)) (length s) (omega (arith, f refl, few (byte_at new 0))) in
       record { says = short_back at (length s) _ _ _ _; header = λ e z. rw r; payload = λ e z. rw r }
+
+unmask_ok : (kind : ℕ) (s : List ℕ) (at : ℕ) (mask : List ℕ) → kind ≤ 5 → length mask ≡ 5
+    → unmask_at kind s at mask ≡ finish_at (numbered_kind kind) (long_kind kind) s at mask
+unfolding unmask_at in_mask
+unmask_ok kind s at mask h k = rw (le-ltb 5 kind h, eq-eqb (length mask) 5 k)
 
 pub unmask_back : UnmaskGivesBack
 unmask_back kind s at mask r new h k u =

@@ -13,7 +13,7 @@ use Rattle.shared.specs.declared.cid.ConnectionId.{ConnectionId}
 use Rattle.shared.specs.declared.kinds.CutNumber.{CutNumber}
 use Rattle.number.specs.Cutting.{is_cut}
 use Rattle.packet.specs.TypeBits.{bits_of}
-use Rattle.packet_out.specs.Encoding.{Plain, plain_number, number_len_in, number_keeps, keep_rules, shape_by, written_header, header_bytes}
+use Rattle.packet_out.specs.Encoding.{Plain, plain_number, keep_rules, shape_by, written_header, header_bytes}
 use Rattle.packet_out.specs.Length.{length_field, length_set}
 use Rattle.packet_out.proofs.Laws.{kept, length_small}
 use Rattle.packet_out.proofs.LengthAndMask.{sets}
@@ -40,11 +40,9 @@ module _ (p : Plain) (dst src : ConnectionId) (token : List ℕ) (n : ℕ) where
 module _ (p : Plain) (dst src : ConnectionId) (token payload : List ℕ) (c : CutNumber) (is : plain_number p ≡ some c)
     (t : fits p dst src token (length payload) ≡ true) where
   size : number_size p ≡ c.0
-  unfolding number_len_in
   size = rw is
 
   cuts : is_cut c ≡ true
-  unfolding number_keeps
   cuts = rw is at (kept _ _ _ (fit p dst src token (length payload) t).rules).cut
 
   few : (shape_by bits_of p).has_length ≡ true → c.0 + length payload < 2 ^ 14

@@ -3,12 +3,13 @@ use Rattle.std.specs.Prelude.{if◌then◌else◌}
 use Prim.Native.Nat.{ℕ, zero, suc, ◌+◌, ◌%◌, ◌^◌, ◌≤◌, ◌<◌}
 use mathlib.Core.Path.{◌≡◌, refl, sym, ap, ◌∙◌}
 use mathlib.Core.List.{List, ◌++◌}
-use mathlib.Core.Bool.{Bool, true, false, ◌||◌}
+use mathlib.Core.Bool.{Bool, true, false}
 use native.Mathlib.Omega.{arith}
 use lib.ListN.{length, take, length-append, length-replicate}
 use lib.Seq.{take_at}
 use lib.Dec.{leb, eqb}
 use borrow.Author.Tests.{ltb-false, le-ltb, lt-leb, ne_eqb}
+use Rattle.std.proofs.lemmas.Bool.{or_parts}
 use Rattle.coding.specs.Words.{no, ok}
 use Rattle.coding.specs.Bytes.{splice}
 use Rattle.coding.specs.Places.{part_of}
@@ -24,7 +25,7 @@ use Rattle.packet.specs.Split.{cut_at}
 use Rattle.packet.specs.Walk.{packet, PacketStep, met_on, step_on, packet_step_at}
 use Rattle.packet.specs.TypeBits.{type_of, bits_of}
 use Rattle.packet.proofs.Types.{tables}
-use Rattle.packet_out.specs.Encoding.{Plain, initial, zero_rtt, handshake, retry, short, negotiate, plain_number, number_len_in, shape_by, length_bytes, number_field, written_header, placeholder, partial_of}
+use Rattle.packet_out.specs.Encoding.{Plain, initial, zero_rtt, handshake, retry, short, negotiate, plain_number, shape_by, length_bytes, number_field, written_header, placeholder, partial_of}
 use Rattle.packet_out.specs.Length.{length_field}
 use Rattle.packet_out.specs.Back.{kind_read, version_read, src_read, token_place, end_read, read_as, Readable, Typed}
 use Rattle.packet_out.specs.Before.{number_size, fits, header_with}
@@ -43,7 +44,8 @@ use Rattle.gateway.specs.Arguments.{numbered_kind}
 use Rattle.gateway.specs.declared.records.HeaderGiven.{HeaderGiven}
 use Rattle.gateway.specs.declared.records.SplitAnswer.{SplitAnswer}
 use Rattle.frame.specs.Table.{flag}
-use Rattle.gateway.proofs.SplitBack.{flag_back, flag_small, split_back}
+use Rattle.gateway.proofs.Taken.{flag_back, flag_small}
+use Rattle.gateway.proofs.SplitBack.{split_back}
 use Rattle.gateway.proofs.Whole.{Fit, fit}
 use Rattle.gateway.proofs.HeaderWrites.{for_no, for_ok}
 
@@ -129,10 +131,6 @@ module _ (p : Plain) (dst src : ConnectionId) (token payload : List ℕ) (local 
 
 -- ---- by the kind that is given
 
-has_token_law : (c : CutNumber) (v : ℕ) → (shape_by bits_of (initial c v)).has_token ≡ true
-unfolding shape_by
-has_token_law c v = refl
-
 -- a flag is 1 or 0
 flag_of : (n : ℕ) → n ≤ 1 → flag (eqb n 1) ≡ n
 flag_of zero h = refl
@@ -180,8 +178,8 @@ module _ (dst src token payload : List ℕ) (local : ℕ) (versions : List ℕ) 
     given k = record { kind = k; spin = spin; key_phase = phase; random = random; version = version; number_value = value; number_len = len }
 
     by_kind : (k : ℕ) → k ≤ 5 → (y : Ready (plain_for (given k))) → ReadBack (given k) dst src token (length payload) w (sent (plain_for (given k)) y) (said (plain_for (given k)) y)
-    unfolding read read_as headed kind_read version_read src_read plain_number number_len_in numbered_kind
-    by_kind zero l y = make _ y (given 0) refl refl (λ _. cid_same src) (λ _. refl) (λ _. token_there _ _ _ token payload local versions grease y.fit few y.typed y.readable a b (has_token_law _ version)) (λ _. refl) (λ _. refl) (λ e. absurd (omega (arith, e))) (λ e. absurd (omega (arith, e)))
+    unfolding read read_as headed kind_read version_read src_read numbered_kind
+    by_kind zero l y = make _ y (given 0) refl refl (λ _. cid_same src) (λ _. refl) (λ _. token_there _ _ _ token payload local versions grease y.fit few y.typed y.readable a b refl) (λ _. refl) (λ _. refl) (λ e. absurd (omega (arith, e))) (λ e. absurd (omega (arith, e)))
     by_kind (suc zero) l y = make _ y (given 1) refl refl (λ _. cid_same src) (λ _. refl) (λ e. absurd (omega (arith, e))) (λ _. refl) (λ _. refl) (λ e. absurd (omega (arith, e))) (λ e. absurd (omega (arith, e)))
     by_kind (suc (suc zero)) l y = make _ y (given 2) refl refl (λ _. cid_same src) (λ _. refl) (λ e. absurd (omega (arith, e))) (λ _. refl) (λ _. refl) (λ e. absurd (omega (arith, e))) (λ e. absurd (omega (arith, e)))
     by_kind (suc (suc (suc zero))) l y = make _ y (given 3) refl refl (λ _. cid_same src) (λ _. refl) (λ e. absurd (omega (arith, e))) (λ e. absurd (omega (arith, e))) (λ e. absurd (let z : ◌≡◌ {A = ℕ} 0 1 = cc in omega arith)) (λ e. absurd (omega (arith, e))) (λ e. absurd (omega (arith, e)))
@@ -222,11 +220,6 @@ module _ (p : Plain) (dst src : ConnectionId) (token : List ℕ) (n : ℕ) (old 
       go true e = let q = put_ok _ (rw e at u) in record { fitting = e; long = q.0; number = q.1.0; bytes = q.1.1 }
       go false e = absurd (put_no 14 (λ x. omega (arith, x)) (rw e at u))
 
-or_false : (a b : Bool) → (a || b) ≡ false → (a ≡ false) × (b ≡ false)
-or_false false false h = (refl, refl)
-or_false false true h = let z : ◌≡◌ {A = ℕ} 0 1 = cc in absurd (omega arith)
-or_false true b h = let z : ◌≡◌ {A = ℕ} 0 1 = cc in absurd (omega arith)
-
 -- arguments that keep their rules
 record Keeps (h : HeaderGiven) (dst src len : ℕ) : Type 0 where
   kind : h.kind ≤ 5
@@ -238,12 +231,12 @@ record Keeps (h : HeaderGiven) (dst src len : ℕ) : Type 0 where
 keeps : (h : HeaderGiven) (dst src token n : ℕ) → headers.given_outside h dst src token n ≡ false → Keeps h dst src token
 unfolding headers.given_outside
 keeps h dst src token n e =
-    let e6 = or_false _ _ e in
-    let e5 = or_false _ _ e6.0 in
-    let e4 = or_false _ _ e5.0 in
-    let e3 = or_false _ _ e4.0 in
-    let e2 = or_false _ _ e3.0 in
-    let e1 = or_false _ _ e2.0 in
+    let e6 = or_parts _ _ e in
+    let e5 = or_parts _ _ e6.0 in
+    let e4 = or_parts _ _ e5.0 in
+    let e3 = or_parts _ _ e4.0 in
+    let e2 = or_parts _ _ e3.0 in
+    let e1 = or_parts _ _ e2.0 in
     record { kind = ltb-false _ _ e1.0; spin = ltb-false _ _ e1.1; to = ltb-false _ _ e3.1; from = ltb-false _ _ e4.1; token = ltb-false _ _ e5.1 }
 
 -- a connection id has an array of 20

@@ -1,7 +1,9 @@
 -- Arguments and answers as numbers: a flag is 0 or 1 (frame/specs/Table `flag`), a kind of header 0 Initial, 1 0-RTT,
 -- 2 Handshake, 3 Retry, 4 short, 5 Version Negotiation (as packet's kind_of has them). What is past these is 14.
-use Rattle.std.specs.Prelude.{ℕ, Bool, not, ◌||◌, ltb, eqb, if◌then◌else◌}
+use Rattle.std.specs.Prelude.{ℕ, ◌≡◌, Bool, true, false, not, ◌||◌, ltb, eqb, if◌then◌else◌, Result, Ok, Err}
 use Rattle.std.proofs.Math.Option.{Option, none, some}
+use Rattle.coding.specs.declared.refusal.Refusal.{Refusal}
+use Rattle.coding.specs.declared.refusal.Refusal.TheVariants as refusal
 use Rattle.protect.specs.declared.Kind.{Kind}
 use Rattle.protect.specs.declared.Kind.TheVariants as kind
 
@@ -22,6 +24,20 @@ kind_at k =
     if eqb k 4 then kind.Short else
     kind.VersionNegotiate
 
+-- and back
+abbrev pub kind_number : Kind → ℕ
+kind_number kind.Initial = 0
+kind_number kind.ZeroRtt = 1
+kind_number kind.Handshake = 2
+kind_number kind.Retry = 3
+kind_number kind.Short = 4
+kind_number kind.VersionNegotiate = 5
+
 -- a number's length, of which 0 says that there is no number
 abbrev pub number_given : ℕ → Option ℕ
 number_given len = if eqb len 0 then none else some len
+
+-- an argument x is taken for what it says, or it is outside its rule
+abbrev pub Takes : {A B : Type 0} → (A → B) → B → Bool → Result A Refusal → Type 0
+Takes says x outside (Ok a) = (outside ≡ false) × (x ≡ says a)
+Takes says x outside (Err why) = (outside ≡ true) × (why ≡ refusal.Argument)

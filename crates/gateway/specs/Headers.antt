@@ -17,6 +17,14 @@ unfoldable pub given_outside : HeaderGiven → ℕ → ℕ → ℕ → ℕ → B
 given_outside h dst src token n =
     ltb 5 h.kind || ltb 1 h.spin || ltb 1 h.key_phase || ltb max_cid dst || ltb max_cid src || ltb max_datagram token || ltb max_datagram n
 
+-- of these, the kind and the flags
+abbrev pub kind_outside : HeaderGiven → Bool
+kind_outside h = ltb 5 h.kind || ltb 1 h.spin || ltb 1 h.key_phase
+
+-- and the lengths
+abbrev pub lengths_outside : ℕ → ℕ → ℕ → ℕ → Bool
+lengths_outside dst src token n = ltb max_cid dst || ltb max_cid src || ltb max_datagram token || ltb max_datagram n
+
 -- the header by its kind; what a kind does not have is not looked at
 abbrev pub plain_for : HeaderGiven → Plain
 plain_for h =

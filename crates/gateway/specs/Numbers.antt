@@ -1,13 +1,18 @@
 -- The number ends of the three spaces over the surface. A step is a call of one space, lifted (spaces/specs/Calls): of the two others
 -- no flag is looked at, and their fields come back as they came.
-use Rattle.std.specs.Prelude.{ℕ, Bool, ◌||◌, ltb, eqb, if◌then◌else◌}
+use Rattle.std.specs.Prelude.{ℕ, ◌≡◌, Bool, ◌||◌, ltb, eqb, if◌then◌else◌, Result, Ok, Err}
 use Rattle.coding.specs.Words.{Answer, no, ok}
+use Rattle.coding.specs.Refusals.{number_of}
+use Rattle.coding.specs.declared.refusal.Refusal.{Refusal}
+use Rattle.coding.specs.declared.refusal.Refusal.TheVariants as refusal
 use Rattle.shared.specs.declared.kinds.CutNumber.{CutNumber}
 use Rattle.number.specs.Cutting.{cut}
 use Rattle.number.specs.Ends.{SoFar, none, at, base_of, Ends, Call, send_by, acknowledge_by, read_by, accept_by}
 use Rattle.spaces.specs.Each.{Each, space_for}
 use Rattle.spaces.specs.Calls.{Told, refused_all, lifted}
 use Rattle.gateway.specs.Arguments.{kind_at}
+use Rattle.gateway.specs.declared.numbers.NumberStep.{NumberStep}
+use Rattle.gateway.specs.declared.numbers.NumberStep.TheVariants as does
 use Rattle.gateway.specs.declared.records.NumberEnds.{NumberEnds}
 use Rattle.gateway.specs.declared.records.NumberSpaces.{NumberSpaces}
 use Rattle.gateway.specs.declared.records.NumberAnswer.{NumberAnswer}
@@ -77,6 +82,18 @@ step_by step n len value e =
     if eqb step 3 then kept_step (accept_by (ends_in e) n) else
     refused_all 14 e
 
+-- a step with what it takes
+abbrev pub step_of : NumberStep → NumberEnds → Told NumberEnds Numbers
+step_of does.Send e = send_step e
+step_of (does.Acknowledge n) e = kept_step (acknowledge_by (ends_in e) n.0)
+step_of (does.Read c) e = read_step c e
+step_of (does.Accept n) e = kept_step (accept_by (ends_in e) n.0)
+
+-- the code takes a step by its number for this one, or refuses it
+abbrev pub StepTaken : ℕ → ℕ → ℕ → ℕ → Result NumberStep Refusal → Type 0
+StepTaken step n len value (Ok s) = (e : NumberEnds) → step_by step n len value e ≡ step_of s e
+StepTaken step n len value (Err why) = ((e : NumberEnds) → step_by step n len value e ≡ refused_all 14 e) × (why ≡ refusal.Argument)
+
 abbrev pub one_step : ℕ → ℕ → ℕ → ℕ → NumberEnds → Told NumberEnds Numbers
 one_step step n len value e = if unkept e then refused_all 14 e else step_by step n len value e
 
@@ -101,6 +118,11 @@ answer_with k a x = record { refusal = k; number_value = a.value; number_len = a
 
 abbrev pub record_of : Told (Each NumberEnds) Numbers → NumberAnswer
 record_of t = answer_with (refusal_in t.says) (numbers_in t.says) t.leaves
+
+-- what the code answers to a step of the record x, with a refusal as a record too
+abbrev pub step_said : Result NumberAnswer Refusal → NumberSpaces → NumberAnswer
+step_said (Ok a) x = a
+step_said (Err why) x = answer_with (number_of why) (numbers 0 0 0) (each_in x)
 
 abbrev pub number_for : ℕ → ℕ → NumberSpaces → ℕ → ℕ → ℕ → NumberAnswer
 number_for step kind x n len value = record_of (lifted (one_step step n len value) (space_for (kind_at kind)) (each_in x))

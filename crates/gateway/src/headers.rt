@@ -1,100 +1,98 @@
 // The header that is to be written, of its arguments, and what it was written with.
-ghost use Rattle.std.specs.Prelude.{◌≡◌};
-ghost use Rattle.packet_out.specs.Said.{plain_of, encoded_of};
-ghost use Rattle.gateway.specs.Headers.{given_outside, plain_for, no_header, written_record};
+#![tactic(auto, using(crate::proofs::Taken::taken), unfolding(packet_out::specs::Said::encoded_of))]
 
-use crate::packets;
+ghost use Rattle.std.specs.Prelude.{◌≡◌};
+ghost use Rattle.packet_out.specs.Encoding.{EncodesAs};
+ghost use Rattle.packet_out.specs.Said.{plain_of, encoded_of};
+ghost use Rattle.gateway.specs.Arguments.{Takes};
+ghost use Rattle.gateway.specs.Headers.{kind_outside, lengths_outside, plain_for, written_record, header_for};
+
+use crate::arguments;
 use crate::records::{HeaderAnswer, HeaderGiven};
-use coding::MAX_DATAGRAM;
+use coding::{MAX_DATAGRAM, Refusal};
 use packet::LongType;
-use packet_out::{Encoded, Header};
+use packet_out::{Header, PartialEncode};
+use protect::Kind;
 use shared::{CutNumber, MAX_CID_SIZE};
 
-// Whether an argument is given_outside its rule, whatever the kind of header makes of it.
-pub(crate) fn is_outside(
-    h: HeaderGiven,
-    dst: usize,
-    src: usize,
-    token: usize,
-    payload: usize,
-) -> bool
-    ensures { result ≡ given_outside h dst src token payload }
-{
-    if 5 < h.kind {
-        return true;
-    }
-    if 1 < h.spin {
-        return true;
-    }
-    if 1 < h.key_phase {
-        return true;
-    }
-    if MAX_CID_SIZE < dst {
-        return true;
-    }
-    if MAX_CID_SIZE < src {
-        return true;
-    }
-    if MAX_DATAGRAM < token {
-        return true;
-    }
-    MAX_DATAGRAM < payload
-}
+// The header to write. What its kind does not have is looked at all the same.
+impl TryFrom<HeaderGiven> for Header {
+    type Error = Refusal;
 
-// The header to write; a kind past 4 counts as Version Negotiation.
-pub(crate) fn header_of(h: HeaderGiven) -> Header
-    ensures { plain_of result ≡ plain_for h }
-{
-    let kind = h.kind;
-    let version = h.version;
-    let number = CutNumber(h.number_len, h.number_value);
-    match kind {
-        0 => Header::Initial { number, version },
-        1 => Header::Long {
-            ty: LongType::ZeroRtt,
-            number,
-            version,
-        },
-        2 => Header::Long {
-            ty: LongType::Handshake,
-            number,
-            version,
-        },
-        3 => Header::Retry { version },
-        4 => Header::Short {
-            spin: h.spin == 1,
-            key_phase: h.key_phase == 1,
-            number,
-        },
-        _ => Header::VersionNegotiate { random: h.random },
+    ghost try_from_gives = { λ h r. Takes plain_of (plain_for h) (kind_outside h) r };
+
+    fn try_from(h: HeaderGiven) -> Result<Header, Refusal> {
+        let kind = arguments::kind_of(h.kind)?;
+        let spin = arguments::flag_of(h.spin)?;
+        let key_phase = arguments::flag_of(h.key_phase)?;
+        let number = CutNumber(h.number_len, h.number_value);
+        let version = h.version;
+        Ok(match kind {
+            Kind::Initial => Header::Initial { number, version },
+            Kind::ZeroRtt => Header::Long {
+                ty: LongType::ZeroRtt,
+                number,
+                version,
+            },
+            Kind::Handshake => Header::Long {
+                ty: LongType::Handshake,
+                number,
+                version,
+            },
+            Kind::Retry => Header::Retry { version },
+            Kind::Short => Header::Short {
+                spin,
+                key_phase,
+                number,
+            },
+            Kind::VersionNegotiate => Header::VersionNegotiate { random: h.random },
+        })
     }
 }
 
-pub(crate) fn no_header(refusal: u8) -> HeaderAnswer
-    ensures { result ≡ no_header refusal }
+// Whether a length is outside its rule: a connection id's, the token's, the payload's.
+fn are_outside(dst: usize, src: usize, token: usize, payload: usize) -> bool
+    ensures { result ≡ lengths_outside dst src token payload }
 {
-    HeaderAnswer {
-        refusal,
-        has_length: 0,
-        header_len: 0,
-        number_len: 0,
-    }
+    MAX_CID_SIZE < dst || MAX_CID_SIZE < src || MAX_DATAGRAM < token || MAX_DATAGRAM < payload
 }
 
-// What a header was written with, as a record.
-pub(crate) fn header_record(e: Encoded) -> HeaderAnswer
-    ensures { result ≡ written_record (encoded_of e) }
+// Writes a header with its Length.
+pub(crate) fn write(
+    header: HeaderGiven,
+    dst_cid: &[u8],
+    src_cid: &[u8],
+    token: &[u8],
+    payload_len: usize,
+    out: &mut [u8],
+) -> Result<PartialEncode, Refusal>
+    ensures { EncodesAs (plain_for header) (header_for header dst_cid.now src_cid.now token.now payload_len) out.old (encoded_of result) out.new }
 {
-    match e {
-        Encoded::Partial(p) => {
-            let number = p.number;
-            HeaderAnswer {
+    let plain = Header::try_from(header)?;
+    if are_outside(dst_cid.len(), src_cid.len(), token.len(), payload_len) {
+        return Err(Refusal::Argument);
+    }
+    packet_out::encode_for(plain, dst_cid, src_cid, token, payload_len, out)
+}
+
+// What a header was written with.
+impl From<Result<PartialEncode, Refusal>> for HeaderAnswer {
+    ghost from_gives = { λ header answer. answer ≡ written_record (encoded_of header) };
+
+    fn from(header: Result<PartialEncode, Refusal>) -> HeaderAnswer {
+        match header {
+            Ok(header) => HeaderAnswer {
                 refusal: 0,
-                has_length: packets::flag_of(p.has_length),
-                header_len: p.header_len,
-                number_len: protect::bytes_of(number),
-            }
+                has_length: u8::from(header.has_length),
+                header_len: header.header_len,
+                number_len: protect::bytes_of(header.number),
+            },
+            Err(why) => HeaderAnswer {
+                refusal: why.number(),
+                has_length: 0,
+                header_len: 0,
+                number_len: 0,
+            },
         }
-        Encoded::Refused(why) => no_header(why.number()),
     }
 }

@@ -1,8 +1,9 @@
 // The surface that the gateway's host calls: seven functions on numbers and byte slices, each over a proved crate. Every
 // argument is checked; an answer is a record by value, its refusal first; a refusal changes no lent byte. `gateway_c` exports
 // them to C; include/guobbarel.h says the same to a C compiler, and what a caller owes.
-#![tactic(auto)]
+#![tactic(auto, using(crate::proofs::Taken::taken, crate::proofs::Answered::changes, crate::proofs::HeaderWrites::puts_said), unfolding(coding::specs::Said::answer_of))]
 
+mod arguments; // arguments.rt: arguments that are numbers, and what they are taken for
 mod headers; // headers.rt: a header with its Length
 mod numbers; // numbers.rt: the number ends, in and out
 mod packets; // packets.rt: what a header and what finish say, as records
@@ -15,7 +16,6 @@ ghost use Rattle.gateway.specs.Numbers.{number_for};
 ghost use Rattle.gateway.specs.Headers.{WritesHeader};
 
 pub use gateway_frame::{FrameAnswer, FrameValue, Span};
-use protect::Masked;
 pub use records::{
     HeaderAnswer, HeaderGiven, NumberAnswer, NumberEnds, NumberSpaces, SampleAnswer, SplitAnswer,
     UnmaskAnswer,
@@ -32,23 +32,20 @@ pub fn guobbarel_split(
 ) -> SplitAnswer
     ensures { result ≡ split_for datagram.now at local_cid_len versions.now grease }
 {
-    if 1 < grease {
-        return packets::no_packet(14, at);
+    match arguments::flag_of(grease) {
+        Ok(grease) => packets::step_record(
+            at,
+            packet::step(datagram, at, local_cid_len, versions, grease),
+        ),
+        Err(why) => packets::no_packet(why.number(), at),
     }
-    packets::step_record(
-        at,
-        packet::step(datagram, at, local_cid_len, versions, grease == 1),
-    )
 }
 
 // The sample that the mask of a packet is made of.
 pub fn guobbarel_sample_place(kind: u8, packet: &[u8], number_offset: usize) -> SampleAnswer
     ensures { result ≡ sample_for kind packet.now number_offset }
 {
-    if 5 < kind {
-        return packets::no_sample(14);
-    }
-    packets::sample_record(protect::sample_place(packets::kind_of(kind), packet, number_offset))
+    SampleAnswer::from(packets::sample_place(kind, packet, number_offset))
 }
 
 // Takes the header protection off a packet where it stands.
@@ -60,19 +57,8 @@ pub fn guobbarel_unmask(
 ) -> UnmaskAnswer
     ensures { UnmasksPacket kind packet.old number_offset mask.now result packet.new }
 {
-    if 5 < kind {
-        return packets::not_opened(14);
-    }
-    if mask.len() != 5 {
-        return packets::not_opened(14);
-    }
     let len = packet.len();
-    let answer = protect::finish(
-        packets::kind_of(kind),
-        packet,
-        number_offset,
-        packets::five(mask),
-    );
+    let answer = packets::unmask(kind, packet, number_offset, mask);
     packets::unmask_record(answer, number_offset, len)
 }
 
@@ -98,10 +84,10 @@ pub fn guobbarel_number_step(
 ) -> NumberAnswer
     ensures { result ≡ number_for step kind spaces number number_len number_value }
 {
-    let packet::Space::In(id) = spaces::space_of(packets::kind_of(kind)) else {
-        return numbers::answer(14, spaces, 0, 0, 0);
-    };
-    numbers::step_in(step, id, spaces, number, number_len, number_value)
+    match numbers::step(step, kind, spaces, number, number_len, number_value) {
+        Ok(answer) => answer,
+        Err(why) => numbers::no_number(why.number(), spaces),
+    }
 }
 
 // Writes a header from byte 0 of out on, for a payload of `payload_len` bytes to follow it.
@@ -115,23 +101,7 @@ pub fn guobbarel_header_write(
 ) -> HeaderAnswer
     ensures { WritesHeader header dst_cid.now src_cid.now token.now payload_len out.old result out.new }
 {
-    if headers::is_outside(
-        header,
-        dst_cid.len(),
-        src_cid.len(),
-        token.len(),
-        payload_len,
-    ) {
-        return headers::no_header(14);
-    }
-    headers::header_record(packet_out::encode_for(
-        headers::header_of(header),
-        dst_cid,
-        src_cid,
-        token,
-        payload_len,
-        out,
-    ))
+    HeaderAnswer::from(headers::write(header, dst_cid, src_cid, token, payload_len, out))
 }
 
 // The mask step: header protection over a packet that is encrypted. A number_len of 0 says that there is no number. Answers the
@@ -145,21 +115,8 @@ pub fn guobbarel_mask(
 ) -> u8
     ensures { MasksPacket header_len number_len has_length packet.old mask.now result packet.new }
 {
-    if 1 < has_length {
-        return 14;
+    match packets::mask(header_len, number_len, has_length, packet, mask) {
+        Ok(()) => 0,
+        Err(why) => why.number(),
     }
-    if mask.len() != 5 {
-        return 14;
-    }
-    let number = packets::number_len(number_len);
-    let Masked::Refused(why) = protect::mask(
-        header_len,
-        number,
-        has_length == 1,
-        packet,
-        packets::five(mask),
-    ) else {
-        return 0;
-    };
-    why.number()
 }

@@ -1,17 +1,34 @@
-// Packets over the surface: what a header says as numbers, kinds by their number, and what finish answers.
-ghost use Rattle.std.specs.Prelude.{◌≡◌, length};
-ghost use Rattle.frame.specs.Table.{flag};
-ghost use Rattle.packet.specs.Said.{header_of, outcome_of, packet_step_of};
-ghost use Rattle.protect.specs.Said.{long_header, numbered_of, number_len_of, sample_of, finished_of};
-ghost use Rattle.gateway.specs.Arguments.{long_kind, numbered_kind, kind_at, number_given};
-ghost use Rattle.gateway.specs.Packets.{header_has, header_refused, said_numbers, dst_at, src_at, split_record, no_packet_record, step_record, no_sample, sample_record, header_span, payload_span, not_opened, opened_with, unmask_record};
+// Packets over the surface: what a header says as numbers, and what finish answers.
+#![tactic(auto, using(crate::proofs::Taken::taken, crate::proofs::Answered::answered), unfolding(packet::specs::Said::decoded_of, packet::specs::Said::packet_step_of, protect::specs::Said::sample_of, protect::specs::Said::finished_of, protect::specs::Said::opened_of, crate::specs::Packets::unmask_at, crate::specs::Packets::in_mask, protect::specs::Steps::read_off, protect::specs::Steps::left_by, coding::specs::Said::answer_of, crate::specs::Packets::mask_for))]
 
+ghost use Rattle.std.specs.Prelude.{◌≡◌, ◌+◌, length};
+ghost use Rattle.coding.specs.Words.{ok};
+ghost use Rattle.frame.specs.Table.{flag};
+ghost use Rattle.gateway_frame.specs.Spans.{span_at, span_of};
+ghost use Rattle.coding.specs.Said.{answer_of};
+ghost use Rattle.packet.specs.Said.{header_of, decoded_of, error_of, packet_step_of};
+ghost use Rattle.protect.specs.Said.{sample_of, opened_of, finished_of};
+ghost use Rattle.protect.specs.Steps.{Changed, finished, only_done};
+ghost use Rattle.gateway.specs.Arguments.{long_kind, numbered_kind};
+ghost use Rattle.gateway.specs.Packets.{said_numbers, split_record, no_packet_record, step_record, no_sample, sample_record, sample_for, header_span, payload_span, not_opened, opened_with, unmask_record, unmask_at, mask_for};
+
+use crate::arguments;
 use crate::records::{SampleAnswer, SplitAnswer, UnmaskAnswer};
-use coding::Place;
+use coding::{Place, Refusal};
 use gateway_frame::Span;
-use packet::{Decoded, Found, LongType, ProtectedHeader, Stepped};
-use protect::{Finished, Kind, NumberLen, SamplePlace};
+use packet::{LongType, ProtectedHeader, StepError, Stepped};
+use protect::Finished;
 use shared::CutNumber;
+
+// No bytes.
+const NOWHERE: Span = Span { start: 0, len: 0 };
+
+fn span(p: Place) -> Span
+    ensures { result ≡ span_of p }
+{
+    let Place { start, len } = p;
+    Span { start, len }
+}
 
 // What a header alone has.
 #[derive(Clone, Copy)]
@@ -24,148 +41,68 @@ pub(crate) struct HeaderNumbers {
     token: Span,
 }
 
-// A bool as a flag.
-pub(crate) fn flag_of(b: bool) -> u8
-    ensures { result ≡ flag b }
-{
-    if b { 1 } else { 0 }
-}
+impl From<ProtectedHeader> for HeaderNumbers {
+    ghost from_gives = { λ header n. n ≡ said_numbers (ok (header_of header)) };
 
-// The kind by its number; what is past 4 counts as Version Negotiation.
-pub(crate) fn kind_of(kind: u8) -> Kind
-    ensures { (long_header result ≡ long_kind kind) × (numbered_of result ≡ numbered_kind kind) × (result ≡ kind_at kind) }
-{
-    match kind {
-        0 => Kind::Initial,
-        1 => Kind::ZeroRtt,
-        2 => Kind::Handshake,
-        3 => Kind::Retry,
-        4 => Kind::Short,
-        _ => Kind::VersionNegotiate,
-    }
-}
-
-// A number's length; 0 says that there is none.
-pub(crate) fn number_len(len: usize) -> NumberLen
-    ensures { number_len_of result ≡ number_given len }
-{
-    if len == 0 {
-        return NumberLen::Nothing;
-    }
-    NumberLen::Bytes(len)
-}
-
-// The mask as a value.
-pub(crate) fn five(mask: &[u8]) -> [u8; 5]
-    requires { length mask.now ≡ 5 }
-    ensures { result ≡ mask.now }
-{
-    [mask[0], mask[1], mask[2], mask[3], mask[4]]
-}
-
-fn header_has(kind: u8, spin: u8, random: u8, len: u64, token: Place) -> HeaderNumbers
-    ensures { result ≡ header_has kind spin random len token }
-{
-    HeaderNumbers {
-        refusal: 0,
-        kind,
-        spin,
-        random,
-        length: len,
-        token: Span {
-            start: token.start,
-            len: token.len,
-        },
+    fn from(header: ProtectedHeader) -> HeaderNumbers {
+        let none = HeaderNumbers {
+            refusal: 0,
+            kind: 6,
+            spin: 0,
+            random: 0,
+            length: 0,
+            token: NOWHERE,
+        };
+        match header {
+            ProtectedHeader::Initial { token, len } => HeaderNumbers {
+                kind: 0,
+                length: len,
+                token: span(token),
+                ..none
+            },
+            ProtectedHeader::Long {
+                ty: LongType::ZeroRtt,
+                len,
+            } => HeaderNumbers {
+                kind: 1,
+                length: len,
+                ..none
+            },
+            ProtectedHeader::Long {
+                ty: LongType::Handshake,
+                len,
+            } => HeaderNumbers {
+                kind: 2,
+                length: len,
+                ..none
+            },
+            ProtectedHeader::Retry => HeaderNumbers { kind: 3, ..none },
+            ProtectedHeader::Short { spin } => HeaderNumbers {
+                kind: 4,
+                spin: u8::from(spin),
+                ..none
+            },
+            ProtectedHeader::VersionNegotiate { random } => HeaderNumbers {
+                kind: 5,
+                random,
+                ..none
+            },
+        }
     }
 }
 
-fn header_refused(refusal: u8) -> HeaderNumbers
-    ensures { result ≡ header_refused refusal }
+// The places of a long header's connection ids: past the version, each behind a byte with its length.
+fn long_cids(dst: u8, src: u8) -> (Span, Span)
+    ensures { (result.0 ≡ span_at 6 dst) × (result.1 ≡ span_at (7 + dst) src) }
 {
-    HeaderNumbers {
-        refusal,
-        kind: 6,
-        spin: 0,
-        random: 0,
-        length: 0,
-        token: Span { start: 0, len: 0 },
-    }
-}
-
-fn numbers_of(header: ProtectedHeader) -> HeaderNumbers
-    ensures { result ≡ said_numbers (header_of header) }
-{
-    let nowhere = Place { start: 0, len: 0 };
-    match header {
-        ProtectedHeader::Initial { token, len } => header_has(0, 0, 0, len, token),
-        ProtectedHeader::Long { ty, len } => match ty {
-            LongType::ZeroRtt => header_has(1, 0, 0, len, nowhere),
-            LongType::Handshake => header_has(2, 0, 0, len, nowhere),
-        },
-        ProtectedHeader::Retry => header_has(3, 0, 0, 0, nowhere),
-        ProtectedHeader::Short { spin } => header_has(4, flag_of(spin), 0, 0, nowhere),
-        ProtectedHeader::VersionNegotiate { random } => header_has(5, 0, random, 0, nowhere),
-        ProtectedHeader::Refused(why) => header_refused(why.number()),
-    }
-}
-
-// The place of a destination CID of len bytes.
-fn dst_place(refusal: u8, kind: u8, len: u8) -> Span
-    ensures { result ≡ dst_at refusal kind len }
-{
-    let len = len as usize;
-    if kind == 4 {
-        return Span { start: 1, len };
-    }
-    if refusal == 0 {
-        return Span { start: 6, len };
-    }
-    if refusal == 4 {
-        return Span { start: 6, len };
-    }
-    Span { start: 0, len: 0 }
-}
-
-// The place of a source CID of len bytes, behind a destination CID of `dst` bytes.
-fn src_place(refusal: u8, kind: u8, dst: u8, len: u8) -> Span
-    ensures { result ≡ src_at refusal kind dst len }
-{
-    let start = 7 + dst as usize;
-    let len = len as usize;
-    if kind == 4 {
-        return Span { start: 0, len: 0 };
-    }
-    if refusal == 0 {
-        return Span { start, len };
-    }
-    if refusal == 4 {
-        return Span { start, len };
-    }
-    Span { start: 0, len: 0 }
-}
-
-// A packet of len bytes at a place of the datagram, or a refusal there.
-fn split_record(start: usize, len: usize, plain: Decoded) -> SplitAnswer
-    ensures { result ≡ split_record start len (outcome_of plain) }
-{
-    let header = plain.header;
-    let n = numbers_of(header);
-    let token = n.token;
-    let dst = plain.dst_cid;
-    let src = plain.src_cid;
-    SplitAnswer {
-        refusal: n.refusal,
-        kind: n.kind,
-        spin: n.spin,
-        random: n.random,
-        version: plain.version,
-        packet: Span { start, len },
-        number_offset: plain.number_offset,
-        length: n.length,
-        token,
-        dst_cid: dst_place(n.refusal, n.kind, dst.len),
-        src_cid: src_place(n.refusal, n.kind, dst.len, src.len),
-    }
+    let dst = usize::from(dst);
+    let start = 7 + dst;
+    let to = Span { start: 6, len: dst };
+    let from = Span {
+        start,
+        len: usize::from(src),
+    };
+    (to, from)
 }
 
 // No packet: kind 6. The refusal is 0 at the end of the datagram.
@@ -181,85 +118,136 @@ pub(crate) fn no_packet(refusal: u8, start: usize) -> SplitAnswer
         packet: Span { start, len: 0 },
         number_offset: 0,
         length: 0,
-        token: Span { start: 0, len: 0 },
-        dst_cid: Span { start: 0, len: 0 },
-        src_cid: Span { start: 0, len: 0 },
+        token: NOWHERE,
+        dst_cid: NOWHERE,
+        src_cid: NOWHERE,
+    }
+}
+
+// A packet of the datagram.
+fn packet_record(x: Stepped) -> SplitAnswer
+    ensures { result ≡ split_record x.packet.start x.packet.len (decoded_of x.plain_header) }
+{
+    let plain = x.plain_header;
+    let HeaderNumbers {
+        refusal,
+        kind,
+        spin,
+        random,
+        length,
+        token,
+    } = HeaderNumbers::from(plain.header);
+    let (dst_cid, src_cid) = if plain.has_long_header() {
+        long_cids(plain.dst_cid.len, plain.src_cid.len)
+    } else {
+        // a short header's stands past the first byte, and there is no source
+        let len = usize::from(plain.dst_cid.len);
+        (Span { start: 1, len }, NOWHERE)
+    };
+    SplitAnswer {
+        refusal,
+        kind,
+        spin,
+        random,
+        version: plain.version,
+        packet: span(x.packet),
+        number_offset: plain.number_offset,
+        length,
+        token,
+        dst_cid,
+        src_cid,
+    }
+}
+
+// A refusal at a place of the datagram; of the refusals that of a version alone has connection ids.
+fn refused_record(x: StepError) -> SplitAnswer
+    ensures { result ≡ split_record x.start 0 (error_of x.why) }
+{
+    let why = x.why;
+    let refusal = why.refusal();
+    let none = no_packet(refusal.number(), x.start);
+    if refusal != Refusal::Version {
+        return SplitAnswer {
+            version: why.version(),
+            ..none
+        };
+    }
+    let (dst_cid, src_cid) = long_cids(why.dst_cid().len, why.src_cid().len);
+    SplitAnswer {
+        version: why.version(),
+        dst_cid,
+        src_cid,
+        ..none
     }
 }
 
 // What a step of the walk at a place says.
-pub(crate) fn step_record(at: usize, x: Stepped) -> SplitAnswer
+pub(crate) fn step_record(at: usize, x: Result<Option<Stepped>, StepError>) -> SplitAnswer
     ensures { result ≡ step_record at (packet_step_of x) }
 {
-    let found = x.found;
-    let plain = x.plain_header;
-    match found {
-        Found::End => no_packet(0, at),
-        Found::Packet(p) => split_record(p.start, p.len, plain),
-        Found::Refused(start) => split_record(start, 0, plain),
+    match x {
+        Ok(Some(x)) => packet_record(x),
+        Ok(None) => no_packet(0, at),
+        Err(x) => refused_record(x),
     }
 }
 
-pub(crate) fn no_sample(refusal: u8) -> SampleAnswer
+fn no_sample(refusal: u8) -> SampleAnswer
     ensures { result ≡ no_sample refusal }
 {
     SampleAnswer {
         refusal,
-        sample: Span { start: 0, len: 0 },
+        sample: NOWHERE,
     }
 }
 
-pub(crate) fn sample_record(s: SamplePlace) -> SampleAnswer
-    ensures { result ≡ sample_record (sample_of s) }
-{
-    match s {
-        SamplePlace::At(p) => SampleAnswer {
-            refusal: 0,
-            sample: Span {
-                start: p.start,
-                len: p.len,
+impl From<Result<Option<Place>, Refusal>> for SampleAnswer {
+    ghost from_gives = { λ sample answer. answer ≡ sample_record (sample_of sample) };
+
+    fn from(sample: Result<Option<Place>, Refusal>) -> SampleAnswer {
+        match sample {
+            Ok(Some(place)) => SampleAnswer {
+                refusal: 0,
+                sample: span(place),
             },
-        },
-        SamplePlace::Nothing => no_sample(0),
-        SamplePlace::Refused(why) => no_sample(why.number()),
+            Ok(None) => no_sample(0),
+            Err(why) => no_sample(why.number()),
+        }
     }
 }
 
-// The header of a packet of len bytes, up to and with its number of k bytes.
-fn header_span(len: usize, number_offset: usize, k: usize) -> Span
-    ensures { result ≡ header_span len number_offset k }
+// The sample of a packet.
+pub(crate) fn sample_place(
+    kind: u8,
+    packet: &[u8],
+    number_offset: usize,
+) -> Result<Option<Place>, Refusal>
+    ensures { sample_record (sample_of result) ≡ sample_for kind packet.now number_offset }
 {
-    if len < number_offset {
-        return Span { start: 0, len: 0 };
-    }
-    if len - number_offset < k {
-        return Span { start: 0, len: 0 };
-    }
-    Span {
-        start: 0,
-        len: number_offset + k,
-    }
+    protect::sample_place(arguments::kind_of(kind)?, packet, number_offset)
 }
 
-// What follows it.
-fn payload_span(len: usize, number_offset: usize, k: usize) -> Span
-    ensures { result ≡ payload_span len number_offset k }
+// The header of a packet of len bytes, up to and with its number of k bytes, and what follows it.
+fn parts(len: usize, number_offset: usize, k: usize) -> (Span, Span)
+    ensures { (result.0 ≡ header_span len number_offset k) × (result.1 ≡ payload_span len number_offset k) }
 {
-    if len < number_offset {
-        return Span { start: 0, len: 0 };
-    }
-    if len - number_offset < k {
-        return Span { start: 0, len: 0 };
+    if len < number_offset || len - number_offset < k {
+        return (NOWHERE, NOWHERE);
     }
     let start = number_offset + k;
-    Span {
+    let header = Span {
+        start: 0,
+        len: start,
+    };
+    let payload = Span {
         start,
         len: len - start,
-    }
+    };
+    (header, payload)
 }
 
 // A packet that has no number, with refusal 0, or that is refused.
-pub(crate) fn not_opened(refusal: u8) -> UnmaskAnswer
+fn not_opened(refusal: u8) -> UnmaskAnswer
     ensures { result ≡ not_opened refusal }
 {
     UnmaskAnswer {
@@ -268,8 +256,8 @@ pub(crate) fn not_opened(refusal: u8) -> UnmaskAnswer
         key_phase: 0,
         number_value: 0,
         number_len: 0,
-        header: Span { start: 0, len: 0 },
-        payload: Span { start: 0, len: 0 },
+        header: NOWHERE,
+        payload: NOWHERE,
     }
 }
 
@@ -283,32 +271,76 @@ fn opened(
 ) -> UnmaskAnswer
     ensures { result ≡ opened_with number.0 number.1 clear phase number_offset len }
 {
+    let CutNumber(number_len, number_value) = number;
+    let (header, payload) = parts(len, number_offset, number_len);
     UnmaskAnswer {
         refusal: 0,
-        reserved_clear: flag_of(clear),
-        key_phase: flag_of(phase),
-        number_value: number.1,
-        number_len: number.0,
-        header: header_span(len, number_offset, number.0),
-        payload: payload_span(len, number_offset, number.0),
+        reserved_clear: u8::from(clear),
+        key_phase: u8::from(phase),
+        number_value,
+        number_len,
+        header,
+        payload,
     }
 }
 
 // What finish says of a packet of len bytes.
-pub(crate) fn unmask_record(f: Finished, number_offset: usize, len: usize) -> UnmaskAnswer
+pub(crate) fn unmask_record(
+    f: Result<Option<Finished>, Refusal>,
+    number_offset: usize,
+    len: usize,
+) -> UnmaskAnswer
     ensures { result ≡ unmask_record number_offset len (finished_of f) }
 {
     match f {
-        Finished::Long {
-            number,
-            reserved_clear,
-        } => opened(number, reserved_clear, false, number_offset, len),
-        Finished::Short {
-            number,
-            reserved_clear,
-            key_phase,
-        } => opened(number, reserved_clear, key_phase, number_offset, len),
-        Finished::Nothing => not_opened(0),
-        Finished::Refused(why) => not_opened(why.number()),
+        Ok(
+            Some(
+                Finished::Long {
+                    number,
+                    reserved_clear,
+                },
+            ),
+        ) => opened(number, reserved_clear, false, number_offset, len),
+        Ok(
+            Some(
+                Finished::Short {
+                    number,
+                    reserved_clear,
+                    key_phase,
+                },
+            ),
+        ) => opened(number, reserved_clear, key_phase, number_offset, len),
+        Ok(None) => not_opened(0),
+        Err(why) => not_opened(why.number()),
     }
+}
+
+// Takes the header protection off a packet.
+pub(crate) fn unmask(
+    kind: u8,
+    packet: &mut [u8],
+    number_offset: usize,
+    mask: &[u8],
+) -> Result<Option<Finished>, Refusal>
+    ensures { Changed (finished (numbered_kind kind) (long_kind kind) number_offset) (unmask_at kind packet.old number_offset mask.now) packet.old (finished_of result) packet.new }
+{
+    let kind = arguments::kind_of(kind)?;
+    let mask = arguments::five(mask)?;
+    protect::finish(kind, packet, number_offset, mask)
+}
+
+// Puts header protection over a packet.
+pub(crate) fn mask(
+    header_len: usize,
+    number_len: usize,
+    has_length: u8,
+    packet: &mut [u8],
+    mask: &[u8],
+) -> Result<(), Refusal>
+    ensures { Changed only_done (mask_for header_len number_len has_length packet.old mask.now) packet.old (answer_of result) packet.new }
+{
+    let has_length = arguments::flag_of(has_length)?;
+    let mask = arguments::five(mask)?;
+    let number = arguments::number_len(number_len);
+    protect::mask(header_len, number, has_length, packet, mask)
 }
