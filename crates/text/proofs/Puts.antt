@@ -42,7 +42,3 @@ module _ (old : List ℕ) (at r : ℕ) (new : List ℕ) {mid : List ℕ} {p : �
 
 -- a run of puts makes a text
 pub ruleset pieces = (text_on, piece_on, one_piece)
-
--- only one place and one buffer are left
-pub one_text : (xs : List (List ℕ)) (old : List ℕ) (at x y : ℕ) (b d : List ℕ) → PutAll xs old at x b → PutAll xs old at y d → ◌≡◌ {A = ℕ × List ℕ} (x, b) (y, d)
-one_text xs old at x y b d p q = p ∙ sym q
