@@ -1,7 +1,7 @@
 -- Laws of the scan.
-use Rattle.std.specs.Prelude.{if◌then◌else◌, Option, Some, None, Result, Ok, Err}
-use Rattle.std.specs.Option.{SomeIff, ok_or}
-use mathlib.Core.Path.{◌≡◌, refl, sym, ap, ◌∙◌}
+use Rattle.std.specs.Prelude.{if◌then◌else◌, Result, Ok}
+use Rattle.std.specs.Result.{IsErr, IsErrAnd}
+use mathlib.Core.Path.{◌≡◌, refl, sym, ap}
 use mathlib.Core.List.{List}
 use mathlib.Core.Bool.{Bool, true, false}
 use Prim.Native.Nat.{ℕ, zero, suc, ◌+◌, ◌-◌, ◌≤◌, ◌<◌, ◌^◌}
@@ -10,6 +10,7 @@ use lib.Dec.{ltb}
 use lib.ListN.{length}
 use borrow.Author.Tests.{ltb-false, lt-leb, le-ltb}
 use Rattle.coding.specs.Words.{Got, cut, got, and_then, Answer, no, ok}
+use Rattle.coding.specs.Refusals.{number_of}
 use Rattle.coding.specs.Varint.{var_at}
 use Rattle.coding.specs.Said.{var_of}
 use Rattle.coding.specs.declared.varint.VarInt.{VarInt}
@@ -18,27 +19,24 @@ use Rattle.coding.proofs.Laws.{Octets, var_below, var_inside}
 use Rattle.coding.proofs.Rules.{if_all, then_all}
 use Rattle.coding.specs.declared.refusal.Refusal.{Refusal}
 use Rattle.ack.specs.Scan.{rounds, scan_at, scanned}
+use Rattle.ack.specs.Step.{unmoved}
+use Rattle.ack.specs.Said.{round_then, tried_of}
+use Rattle.ack.specs.declared.AckTaken.{AckTaken}
+use Rattle.ack.proofs.Tries.{out}
 
 -- an integer that was read is below 2^62
 pub var_small : (s : List ℕ) (at : ℕ) (r : Result (VarInt × ℕ) UnexpectedEnd) (v : VarInt) (n : ℕ) → Octets s → var_of r ≡ var_at s at → r ≡ Ok (v, n) → v.0 < 2 ^ 62
 unfolding var_of
 var_small s at r v n o p q = var_below s at v.0 n o (sym (rw q at p))
 
--- a difference that was taken, or that would be below zero
-module _ (r : Option ℕ) (a b : ℕ) (why : Refusal) (q : Result ℕ Refusal) (e : SomeIff r (b ≤ a) (a - b)) (f : q ≡ ok_or r why) where
-  pub took : (v : ℕ) → q ≡ Ok v → (b ≤ a) × (v ≡ a - b)
-  took v h = go r e (sym f ∙ h)
-    where
-      go : (r : Option ℕ) → SomeIff r (b ≤ a) (a - b) → ok_or r why ≡ Ok v → (b ≤ a) × (v ≡ a - b)
-      go None e h = cc
-      go (Some x) e h = let i : x ≡ v = cc in (e.0, sym i ∙ e.1)
+-- the exit of a `?` in a round, and in a step
+pub exit_round : (r : Result (ℕ × ℕ) Refusal) (why : Refusal) (more : ℕ → ℕ → Answer ℕ) → IsErr r × IsErrAnd r (λ e. e ≡ why) → round_then r more ≡ no (number_of why)
+unfolding round_then
+exit_round r why more i = rw (out r why i)
 
-  pub below : (w : Refusal) → q ≡ Err w → (a < b) × (w ≡ why)
-  below w h = go r e (sym f ∙ h)
-    where
-      go : (r : Option ℕ) → SomeIff r (b ≤ a) (a - b) → ok_or r why ≡ Err w → (a < b) × (w ≡ why)
-      go None e h = (let n : b ≤ a → ⊥ = e in omega arith, cc)
-      go (Some x) e h = cc
+pub exit_tried : (r : Result AckTaken Refusal) (why : Refusal) (at largest : ℕ) → IsErr r × IsErrAnd r (λ e. e ≡ why) → tried_of r at largest ≡ unmoved (number_of why) at largest
+unfolding tried_of
+exit_tried r why at largest i = rw (out r why i)
 
 pub none : (s : List ℕ) (n at smallest : ℕ) → n ≤ 0 → rounds s n at smallest ≡ ok at
 unfolding rounds

@@ -1,6 +1,6 @@
 // ACK blocks (frame.rs, scan_ack_blocks and AckIter's step; RFC 9000, section 19.3.1). The scan ends by its bytes, whatever
 // count is declared: each round reads two integers, and the first that is cut ends it.
-#![tactic(auto)]
+#![tactic(auto, using(crate::proofs::Tries::went, crate::proofs::Tries::left, crate::proofs::Tries::exit_answer, crate::proofs::Laws::exit_round, crate::proofs::Laws::exit_tried, crate::proofs::Laws::none, crate::proofs::Laws::rounds_left), unfolding(crate::specs::Scan::rounds, crate::specs::Scan::scan_at, crate::specs::Scan::scanned, crate::specs::Step::ack_step, crate::specs::Step::unmoved, crate::specs::Said::round_then, crate::specs::Said::range_step_of, crate::specs::Said::taken_of, crate::specs::Said::tried_of, coding::specs::Words::and_then, coding::specs::Said::var_of, coding::specs::Said::answer_of))]
 
 ghost use Rattle.std.specs.Prelude.{◌≡◌, ℕ, suc};
 ghost use Rattle.coding.specs.Said.{answer_of};

@@ -1,6 +1,6 @@
 // The reader of an ACK frame's ranges (frame.rs, AckIter): it holds the largest number of the range to come and the bytes of the
 // blocks. `nth_range` steps a reader for callers with plain values.
-#![tactic(auto)]
+#![tactic(auto, unfolding(crate::specs::Iter::step_after, ack::specs::Said::taken_of))]
 
 ghost use Rattle.std.specs.Prelude.{◌≡◌};
 ghost use Rattle.ack.specs.Said.{range_step_of};

@@ -1,6 +1,6 @@
 // ECN counts, each raised by one where it stands (frame.rs, EcnCounts and its add_assign); `raised` does it for callers with plain
 // values.
-#![tactic(auto)]
+#![tactic(auto, unfolding(crate::specs::Counts::count_said, crate::specs::Counts::count_of, coding::specs::Said::answer_of))]
 
 ghost use Rattle.std.specs.Prelude.{◌≡◌};
 ghost use Rattle.coding.specs.Said.{answer_of};

@@ -1,23 +1,17 @@
 -- What the answer of the block scan says of the field of ACK blocks.
 use Rattle.std.specs.Prelude.{if◌then◌else◌, Result, Ok}
-use Rattle.std.specs.Result.{result_from_control_flow}
-use Rattle.std.proofs.Common.{Continue, Break}
-use mathlib.Core.Path.{◌≡◌, sym, ◌∙◌}
+use mathlib.Core.Path.{◌≡◌, sym}
 use mathlib.Core.List.{List}
 use mathlib.Core.Bool.{Bool, true, false}
-use Prim.Native.Nat.{ℕ, ◌-◌, ◌≤◌, ◌<◌, ◌^◌}
+use Prim.Native.Nat.{ℕ, ◌≤◌, ◌^◌}
 use native.Mathlib.Omega.{arith}
 use lib.ListN.{length}
 use lib.Dec.{ltb, leb}
 use Rattle.coding.specs.Words.{no, ok}
-use Rattle.coding.specs.Refusals.{number_of}
-use Rattle.coding.specs.declared.Place.{Place}
 use Rattle.coding.specs.declared.refusal.Refusal.{Refusal}
 use Rattle.ack.specs.Scan.{scan_at, scanned}
 use Rattle.coding.specs.Said.{answer_of}
-use Rattle.ack.proofs.Tries.{went, left}
-use Rattle.ack.proofs.Laws.{in_rule, Inside, scan_inside}
-use Rattle.frame.specs.Format.{Read, done, refuse, up_to}
+use Rattle.ack.proofs.Laws.{Inside, scan_inside}
 
 -- the scan ends at its start or past it
 pub scan_past : (s : List ℕ) (p largest n : ℕ) (r : Result ℕ Refusal) (next : ℕ) → answer_of r ≡ scanned s p largest n → r ≡ Ok next → p ≤ next
@@ -29,16 +23,3 @@ scan_past s p largest n r next e q = go (ltb 65527 (length s)) (leb (2 ^ 62) lar
     go false true b h = let z : ◌≡◌ {A = ℕ} 0 1 = cc in absurd (omega arith)
     go false false true h = let z : ◌≡◌ {A = ℕ} 0 1 = cc in absurd (omega arith)
     go false false false h = let i : Inside s p (ok next) = rw h at (scan_inside s p largest n) in i.0
-
-module _ (x : Read Place) (s : List ℕ) (p largest n : ℕ) (r : Result ℕ Refusal) (e : answer_of r ≡ scanned s p largest n) (short : length s ≤ 65527) (small : largest < 2 ^ 62) (few : n < 2 ^ 62) where
-  same : answer_of r ≡ scan_at s p largest n
-  same = e ∙ in_rule s p largest n short small few
-
-  module _ (b : _) (g : r ≡ result_from_control_flow b) where
-    pub scan_on : (next : ℕ) → b ≡ Continue next → x ≡ done (record { start = p; len = next - p }) next → x ≡ up_to p (scan_at s p largest n)
-    unfolding up_to answer_of
-    scan_on next q h = rw (← same, went r b g next q) h
-
-    pub scan_no : (why : _) → b ≡ Break why → x ≡ refuse (number_of why.0) → x ≡ up_to p (scan_at s p largest n)
-    unfolding up_to answer_of
-    scan_no why q h = rw (← same, left r b g why q) h

@@ -1,4 +1,6 @@
 // What follows a frame's type: one small function for each kind, and one decision over the type's number (frame.rs, try_next).
+#![tactic(auto, using(crate::proofs::Rules::exit_body, crate::proofs::Rules::var_if_law, crate::proofs::Rules::data_if_law, ack::proofs::Tries::went, ack::proofs::Tries::left), unfolding(crate::specs::Table::frame_body_at, crate::specs::Table::table, crate::specs::Format::fields_at, crate::specs::Format::field_at, crate::specs::Format::then_read, crate::specs::Format::or_nothing, crate::specs::Said::body_of, crate::specs::Said::field_of, coding::specs::Words::and_then, coding::specs::Said::var_of, coding::specs::Said::read_of, coding::specs::Said::number_read))]
+
 ghost use Rattle.std.specs.Prelude.{◌≡◌, true, [], ◌∷◌, ◌≤◌, length};
 ghost use Rattle.coding.specs.Words.{max_datagram};
 ghost use Rattle.shared.specs.Said.{dir_bit};

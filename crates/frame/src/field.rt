@@ -1,4 +1,6 @@
 // The fields that are more than an integer (frame.rs, take_len and take_remaining). A place past the slice reads as a cut field.
+#![tactic(auto, using(crate::proofs::Rules::exit_field, ack::proofs::Tries::exit_read, ack::proofs::Tries::went, ack::proofs::Tries::left), unfolding(crate::specs::Format::bytes_at, crate::specs::Format::all_left_at, crate::specs::Format::cid_at, crate::specs::Format::blocks_at, crate::specs::Format::up_to, crate::specs::Format::var_if, crate::specs::Format::data_if, crate::specs::Said::field_of, coding::specs::Words::and_then, coding::specs::Said::var_of, coding::specs::Said::answer_of, coding::specs::Said::read_of, coding::specs::Said::number_read))]
+
 ghost use Rattle.std.specs.Prelude.{◌≡◌, ◌<◌, ◌≤◌, length};
 ghost use Rattle.coding.specs.Words.{max_datagram, number_end};
 ghost use Rattle.coding.specs.Said.{read_of, var_of};

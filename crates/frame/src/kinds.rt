@@ -1,14 +1,13 @@
 // What a frame is (frame.rs, Frame and its kinds). A part of the payload is a place in it.
-ghost use Rattle.std.specs.Prelude.{◌≡◌, ◌+◌};
-ghost use Rattle.shared.specs.Said.{dir_bit};
+ghost use Rattle.std.specs.Prelude.{◌≡◌};
 ghost use Rattle.frame.specs.Types.{frame_type_of, ack_eliciting};
-ghost use Rattle.frame.specs.Said.{close_said, frame_said};
+ghost use Rattle.frame.specs.Said.{frame_said};
 
 use coding::Place;
 use ecn::EcnCounts;
 use shared::{Dir, FrameType, FullNumber, StreamId, types};
 
-#[derive(Clone, Copy)]
+#[derive(Clone, Copy, PartialEq, Eq)]
 pub struct Ack {
     pub largest: FullNumber,
     pub delay: u64,
@@ -16,31 +15,31 @@ pub struct Ack {
     pub ecn: Option<EcnCounts>,
 }
 
-#[derive(Clone, Copy)]
+#[derive(Clone, Copy, PartialEq, Eq)]
 pub struct ResetStream {
     pub id: StreamId,
     pub error_code: u64,
     pub final_offset: u64,
 }
 
-#[derive(Clone, Copy)]
+#[derive(Clone, Copy, PartialEq, Eq)]
 pub struct StopSending {
     pub id: StreamId,
     pub error_code: u64,
 }
 
-#[derive(Clone, Copy)]
+#[derive(Clone, Copy, PartialEq, Eq)]
 pub struct Crypto {
     pub offset: u64,
     pub data: Place,
 }
 
-#[derive(Clone, Copy)]
+#[derive(Clone, Copy, PartialEq, Eq)]
 pub struct NewToken {
     pub token: Place,
 }
 
-#[derive(Clone, Copy)]
+#[derive(Clone, Copy, PartialEq, Eq)]
 pub struct Stream {
     pub id: StreamId,
     pub offset: u64,
@@ -50,7 +49,7 @@ pub struct Stream {
     pub data: Place,
 }
 
-#[derive(Clone, Copy)]
+#[derive(Clone, Copy, PartialEq, Eq)]
 pub struct NewConnectionId {
     pub sequence: u64,
     pub retire_prior_to: u64,
@@ -59,7 +58,7 @@ pub struct NewConnectionId {
 }
 
 // Reason given by the transport for closing the connection.
-#[derive(Clone, Copy)]
+#[derive(Clone, Copy, PartialEq, Eq)]
 pub struct ConnectionClose {
     pub error_code: u64,
     pub frame_type: Option<FrameType>,
@@ -67,26 +66,26 @@ pub struct ConnectionClose {
 }
 
 // Reason given by an application for closing the connection.
-#[derive(Clone, Copy)]
+#[derive(Clone, Copy, PartialEq, Eq)]
 pub struct ApplicationClose {
     pub error_code: u64,
     pub reason: Place,
 }
 
-#[derive(Clone, Copy)]
+#[derive(Clone, Copy, PartialEq, Eq)]
 pub enum Close {
     Connection(ConnectionClose),
     Application(ApplicationClose),
 }
 
-#[derive(Clone, Copy)]
+#[derive(Clone, Copy, PartialEq, Eq)]
 pub struct Datagram {
     // whether a length stood before the data
     pub len: bool,
     pub data: Place,
 }
 
-#[derive(Clone, Copy)]
+#[derive(Clone, Copy, PartialEq, Eq)]
 pub struct AckFrequency {
     pub sequence: u64,
     pub ack_eliciting_threshold: u64,
@@ -94,7 +93,7 @@ pub struct AckFrequency {
     pub reordering_threshold: u64,
 }
 
-#[derive(Clone, Copy)]
+#[derive(Clone, Copy, PartialEq, Eq)]
 pub enum Frame {
     Padding,
     Ping,
@@ -122,66 +121,37 @@ pub enum Frame {
 }
 
 // The type of a stream frame, with no length.
+#[tactic(auto, unfolding(crate::specs::Types::frame_type_of))]
 fn stream_type(x: Stream) -> FrameType
     ensures { result.0 ≡ frame_type_of (frame_said (Frame.Stream x)) }
 {
-    if x.offset == 0 {
-        if x.fin {
-            return FrameType(0x09);
-        }
-        return FrameType(0x08);
-    }
-    if x.fin {
-        return FrameType(0x0d);
-    }
-    FrameType(0x0c)
-}
-
-fn max_streams_type(dir: Dir) -> FrameType
-    ensures { result.0 ≡ 0x12 + dir_bit dir }
-{
-    match dir {
-        Dir::Bi => FrameType::MAX_STREAMS_BIDI,
-        Dir::Uni => FrameType::MAX_STREAMS_UNI,
-    }
-}
-
-fn streams_blocked_type(dir: Dir) -> FrameType
-    ensures { result.0 ≡ 0x16 + dir_bit dir }
-{
-    match dir {
-        Dir::Bi => FrameType::STREAMS_BLOCKED_BIDI,
-        Dir::Uni => FrameType::STREAMS_BLOCKED_UNI,
-    }
-}
-
-fn close_type(close: Close) -> FrameType
-    ensures { result.0 ≡ frame_type_of (close_said close) }
-{
-    match close {
-        Close::Connection(_) => FrameType::CONNECTION_CLOSE,
-        Close::Application(_) => FrameType::APPLICATION_CLOSE,
-    }
+    let off = if x.offset == 0 { 0 } else { types::OFF };
+    let fin = if x.fin { types::FIN } else { 0 };
+    FrameType(types::STREAM_FIRST + off + fin)
 }
 
 impl Frame {
     // The type that stands for the frame; a stream's says nothing of a length.
+    #[tactic(auto, unfolding(crate::specs::Types::frame_type_of))]
     pub fn ty(self) -> FrameType
         ensures { result.0 ≡ frame_type_of (frame_said self) }
     {
         match self {
             Frame::Padding => FrameType::PADDING,
             Frame::ResetStream(_) => FrameType::RESET_STREAM,
-            Frame::Close(x) => close_type(x),
+            Frame::Close(Close::Connection(_)) => FrameType::CONNECTION_CLOSE,
+            Frame::Close(Close::Application(_)) => FrameType::APPLICATION_CLOSE,
             Frame::MaxData(_) => FrameType::MAX_DATA,
-            Frame::MaxStreamData { id: _, offset: _ } => FrameType::MAX_STREAM_DATA,
-            Frame::MaxStreams { dir, count: _ } => max_streams_type(dir),
+            Frame::MaxStreamData { .. } => FrameType::MAX_STREAM_DATA,
+            Frame::MaxStreams { dir, .. } => FrameType(types::MAX_STREAMS_BIDI + u64::from(dir)),
             Frame::Ping => FrameType::PING,
-            Frame::DataBlocked { offset: _ } => FrameType::DATA_BLOCKED,
-            Frame::StreamDataBlocked { id: _, offset: _ } => FrameType::STREAM_DATA_BLOCKED,
-            Frame::StreamsBlocked { dir, limit: _ } => streams_blocked_type(dir),
+            Frame::DataBlocked { .. } => FrameType::DATA_BLOCKED,
+            Frame::StreamDataBlocked { .. } => FrameType::STREAM_DATA_BLOCKED,
+            Frame::StreamsBlocked { dir, .. } => {
+                FrameType(types::STREAMS_BLOCKED_BIDI + u64::from(dir))
+            }
             Frame::StopSending(_) => FrameType::STOP_SENDING,
-            Frame::RetireConnectionId { sequence: _ } => FrameType::RETIRE_CONNECTION_ID,
+            Frame::RetireConnectionId { .. } => FrameType::RETIRE_CONNECTION_ID,
             Frame::Ack(_) => FrameType::ACK,
             Frame::Stream(x) => stream_type(x),
             Frame::PathChallenge(_) => FrameType::PATH_CHALLENGE,
@@ -196,14 +166,11 @@ impl Frame {
         }
     }
 
+    // All but PADDING, ACK and the two closes.
+    #[tactic(auto, unfolding(crate::specs::Types::ack_eliciting))]
     pub fn is_ack_eliciting(self) -> bool
         ensures { result ≡ ack_eliciting (frame_said self) }
     {
-        match self {
-            Frame::Ack(_) => false,
-            Frame::Padding => false,
-            Frame::Close(_) => false,
-            _ => true,
-        }
+        !matches!(self, Frame::Padding | Frame::Ack(_) | Frame::Close(_))
     }
 }

@@ -1,6 +1,6 @@
 // Frames: one is read at a place of the payload (frame.rs, reading; RFC 9000, sections 12.4 and 19). Data, reason, token, CID,
 // reset token and ACK blocks are places in that payload: `coding::part(payload, place)` hands back each as a part of it.
-#![tactic(auto)]
+#![tactic(auto, unfolding(crate::specs::Table::frame_at, crate::specs::Table::outcome, crate::specs::Walk::step_at, crate::specs::Walk::sized, crate::specs::Walk::took, crate::specs::Said::said_of, crate::specs::Said::step_of, crate::specs::Said::sized_step_of, crate::specs::Said::body_of, coding::specs::Words::and_then, coding::specs::Said::var_of))]
 
 mod body; // body.rt: each kind's fields, and the decision over the type's number
 mod field; // field.rt: the fields that are more than an integer

@@ -1,4 +1,4 @@
-use Rattle.std.proofs.Common.{◌≡◌, ℕ, suc, ◌+◌, ◌-◌, ◌<◌, List, drop, sym, ap, ◌∙◌, arith}
+use Rattle.std.proofs.Common.{◌≡◌, ℕ, suc, ◌+◌, ◌-◌, ◌<◌, List, drop, ◌∙◌, arith}
 use Rattle.ack.specs.Step.{ack_step}
 use Rattle.ack_iter.specs.Iter.{step_after}
 use Rattle.ack_iter.proofs.nth_range.Goals as goal
@@ -13,10 +13,3 @@ pub loop-preserved : goal.loop-preserved
 loop-preserved c =
     let it = c.loop.it in
     one_less c.args.n c.loop.counter it.«data».now _ it.largest.0 _ c.loop-test.true c.next.ensures.1 c.next.ensures.2.bytes ∙ c.loop.invariant
-
-pub returns : goal.returns
-unfolding step_after
-returns c =
-    let e : c.args.n - c.loop.counter ≡ 0 = omega arith in
-    let it = c.loop.it in
-    c.next-2.ensures.0 ∙ sym (ap (λ (n : ℕ). step_after n it.«data».now it.largest.0) e) ∙ c.loop.invariant

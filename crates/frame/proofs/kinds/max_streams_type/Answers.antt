@@ -1,7 +1,0 @@
-use Rattle.frame.proofs.kinds.max_streams_type.Goals as goal
-
-pub returns-in-Bi : goal.returns-in-Bi
-returns-in-Bi c = rw c.in-Bi.is
-
-pub returns-in-Uni : goal.returns-in-Uni
-returns-in-Uni c = rw c.in-Uni.is
