@@ -129,7 +129,7 @@ def blocks(text, private):
 
 def privates(crate):
     """The types and traits that a crate keeps to itself, by their declarations alone."""
-    heads = [re.findall(r'(?m)^[ \t]*(pub\s+)?(?:struct|enum|trait)\s+(\w+)', blank(open(f).read())) for f in sources(crate)]
+    heads = [re.findall(r'(?m)^[ \t]*(pub\s+)?(?:pub\s*\([^()]*\)\s+)?(?:struct|enum|trait)\s+(\w+)', blank(open(f).read())) for f in sources(crate)]
     return {name for found in heads for shown, name in found if not shown}
 
 
