@@ -1,73 +1,63 @@
 // The operations of `number` on packet numbers: cut and read back.
-use cases::line;
-use cases::line::Answer;
+use cases::line::{Answer, Out, written};
 use cases::record::{Numbers, lay};
-use coding::{Place, U32Read, part};
-use number::{CutMade, FullRead, Tagged};
+use coding::Refusal;
 use shared::{CutNumber, FullNumber};
 
-fn made(said: CutMade) -> Answer {
-    match said {
-        CutMade::Cut(c) => Answer::Two(number::len(c) as u64, c.1 as u64),
-        CutMade::Refused(why) => Answer::No(why),
-    }
+// A cut number's length and its value.
+fn made(said: Result<CutNumber, Refusal>) -> Result<Answer, Refusal> {
+    let c = said?;
+    Ok(Answer::Two(number::len(c) as u64, u64::from(c.1)))
 }
 
-pub(crate) fn full(said: FullRead) -> Answer {
-    match said {
-        FullRead::Number(n) => Answer::One(n.0),
-        FullRead::Refused(why) => Answer::No(why),
-    }
+pub(crate) fn full(said: Result<FullNumber, Refusal>) -> Result<Answer, Refusal> {
+    let FullNumber(n) = said?;
+    Ok(Answer::One(n))
 }
 
-pub(crate) fn pnnew(n: u64, acked: u64) -> Answer {
+pub(crate) fn pnnew(n: u64, acked: u64) -> Result<Answer, Refusal> {
     made(number::new(FullNumber(n), FullNumber(acked)))
 }
 
-pub(crate) fn pnexp(k: u64, value: u64, expected: u64) -> Answer {
-    if 0xffff_ffff < value {
-        return Answer::Bad;
-    }
-    let c = CutNumber(k as usize, value as u32);
-    full(number::expand(c, expected))
+pub(crate) fn pnexp(k: u64, value: u64, expected: u64) -> Result<Answer, Refusal> {
+    let Ok(value) = u32::try_from(value) else {
+        return Ok(Answer::Bad);
+    };
+    full(number::expand(CutNumber(k as usize, value), expected))
 }
 
-pub(crate) fn pndec(k: u64, b: &[u8]) -> Answer {
+pub(crate) fn pndec(k: u64, b: &[u8]) -> Result<Answer, Refusal> {
     if b.len() != 4 {
-        return Answer::Bad;
+        return Ok(Answer::Bad);
     }
-    let U32Read::Num(word, _) = coding::get_u32(b, 0) else {
-        return Answer::Bad;
-    };
+    let (word, _) = coding::get::<u32>(b, 0)?;
     made(number::decode(k as usize, word))
 }
 
-pub(crate) fn pntag(k: u64, value: u64) -> Answer {
-    if 0xffff_ffff < value {
-        return Answer::Bad;
-    }
-    match number::tag(CutNumber(k as usize, value as u32)) {
-        Tagged::Tag(t) => Answer::One(t as u64),
-        Tagged::Refused(why) => Answer::No(why),
-    }
+pub(crate) fn pntag(k: u64, value: u64) -> Result<Answer, Refusal> {
+    let Ok(value) = u32::try_from(value) else {
+        return Ok(Answer::Bad);
+    };
+    let tag = number::tag(CutNumber(k as usize, value))?;
+    Ok(Answer::One(u64::from(tag)))
 }
 
 pub(crate) fn pnlen(tag: u64) -> Answer {
-    if 255 < tag {
-        return Answer::Bad;
+    match u8::try_from(tag) {
+        Ok(tag) => Answer::Number(number::decode_len(tag) as u64),
+        Err(_) => Answer::Bad,
     }
-    Answer::Number(number::decode_len(tag as u8) as u64)
 }
 
-fn encode(k: u64, value: u64, buf: &mut [u8]) -> Answer {
-    if 0xffff_ffff < value {
-        return Answer::Bad;
-    }
-    line::written(number::encode(CutNumber(k as usize, value as u32), buf))
+fn encode(k: u64, value: u64, buf: &mut [u8]) -> Result<Answer, Refusal> {
+    let Ok(value) = u32::try_from(value) else {
+        return Ok(Answer::Bad);
+    };
+    written(number::encode(CutNumber(k as usize, value), buf))
 }
 
-pub(crate) fn pnenc(ns: Numbers, b: &[u8], work: &mut [u8], out: &mut [u8], p: usize) -> usize {
+pub(crate) fn pnenc(ns: Numbers, b: &[u8], work: &mut [u8], out: &mut Out) {
     let n = lay(work, b);
     let said = encode(ns.n0, ns.n1, &mut work[..n]);
-    line::wrote(out, p, said, part(work, Place { start: 0, len: n }))
+    out.wrote(said, &work[..n]);
 }

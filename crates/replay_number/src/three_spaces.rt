@@ -1,19 +1,11 @@
 // A run of steps over the record of three number spaces, each in the space of a packet's kind.
 use crate::numbers::full;
-use crate::one_space::{CUT, Step, and_ends, numbered, set};
-use cases::line;
-use cases::line::Answer;
-use coding::{U8Read, put_slice};
+use crate::one_space::{Step, and_ends, kept, numbered, sent, set};
+use cases::line::{Answer, Out};
+use coding::{Refusal, UnexpectedEnd, get};
 use protect::Kind;
 use shared::{CutNumber, FullNumber};
-use spaces::{SendAnswer, Spaces, SpacesAnswer};
-
-// A step in the space of a packet's kind.
-#[derive(Clone, Copy)]
-struct KindStep {
-    kind: Kind,
-    step: Step,
-}
+use spaces::Spaces;
 
 // The kind by its number; what is past 4 is Version Negotiation.
 fn kind_of(kind: u8) -> Kind {
@@ -27,133 +19,56 @@ fn kind_of(kind: u8) -> Kind {
     }
 }
 
-// The step at a place: its number, the kind's, and two numbers, 14 bytes.
-fn read_step(steps: &[u8], at: usize) -> KindStep {
-    let U8Read::Num(op, p) = coding::get_u8(steps, at) else {
-        return KindStep {
-            kind: Kind::VersionNegotiate,
-            step: CUT,
-        };
-    };
-    let U8Read::Num(kind, p) = coding::get_u8(steps, p) else {
-        return KindStep {
-            kind: Kind::VersionNegotiate,
-            step: CUT,
-        };
-    };
-    KindStep {
-        kind: kind_of(kind),
-        step: numbered(op, steps, p),
-    }
+// A step's number, the kind's, and two numbers, 14 bytes.
+fn read_step(bytes: &[u8]) -> Result<(Kind, Step), UnexpectedEnd> {
+    let (op, at) = get::<u8>(bytes, 0)?;
+    let (kind, at) = get::<u8>(bytes, at)?;
+    Ok((kind_of(kind), numbered(op, bytes, at)?))
 }
 
-fn sent(said: SendAnswer) -> Answer {
-    match said {
-        SendAnswer::Sent {
-            number,
-            cut,
-            spaces: _,
-        } => Answer::Three(number.0, cut.0 as u64, cut.1 as u64),
-        SendAnswer::Refused { why, spaces: _ } => Answer::No(why),
-    }
-}
-
-fn kept(said: SpacesAnswer) -> Answer {
-    match said {
-        SpacesAnswer::Done(_) => Answer::Done,
-        SpacesAnswer::Refused { why, spaces: _ } => Answer::No(why),
-    }
-}
-
-// What a step says.
-fn said(x: Spaces, k: KindStep) -> Answer {
-    let kind = k.kind;
-    let step = k.step;
-    let op = step.op;
-    let n = step.n;
+// What a step says that is a call.
+fn call(x: &mut Spaces, kind: Kind, step: Step) -> Result<Answer, Refusal> {
+    let Step { op, n, v } = step;
     match op {
         0 => sent(x.send(kind)),
         1 => kept(x.acknowledge(kind, FullNumber(n))),
-        2 => full(x.read(kind, CutNumber(n as usize, step.v))),
+        2 => full(x.read(kind, CutNumber(n as usize, v))),
         3 => kept(x.accept(kind, FullNumber(n))),
-        _ => Answer::Bad,
+        _ => Ok(Answer::Bad),
     }
 }
 
-fn put_said(x: Spaces, k: KindStep, out: &mut [u8], p: usize) -> usize {
-    let step = k.step;
-    let op = step.op;
-    match op {
-        4..=6 => put_slice(out, p, b"set"),
-        _ => line::say(out, p, said(x, k)),
+// Sets an end of the kind's space, where it has one.
+fn set_in(x: &mut Spaces, kind: Kind, step: Step) {
+    if let Some(id) = spaces::space_of(kind) {
+        let mut s = x.get(id);
+        set(&mut s, step);
+        *x = x.put(id, s);
     }
 }
 
-fn sent_spaces(said: SendAnswer) -> Spaces {
-    match said {
-        SendAnswer::Sent {
-            number: _,
-            cut: _,
-            spaces,
-        } => spaces,
-        SendAnswer::Refused { why: _, spaces } => spaces,
-    }
-}
-
-fn kept_spaces(said: SpacesAnswer) -> Spaces {
-    match said {
-        SpacesAnswer::Done(spaces) => spaces,
-        SpacesAnswer::Refused { why: _, spaces } => spaces,
-    }
-}
-
-// The record with the kind's space set, where it has one.
-fn set_in(x: Spaces, k: KindStep) -> Spaces {
-    let kind = k.kind;
-    let packet::Space::In(id) = spaces::space_of(kind) else {
-        return x;
-    };
-    x.put(id, set(x.get(id), k.step))
-}
-
-// The record that a step leaves.
-fn after(x: Spaces, k: KindStep) -> Spaces {
-    let kind = k.kind;
-    let step = k.step;
-    let op = step.op;
-    let n = FullNumber(step.n);
-    match op {
-        0 => sent_spaces(x.send(kind)),
-        1 => kept_spaces(x.acknowledge(kind, n)),
-        3 => kept_spaces(x.accept(kind, n)),
-        _ => set_in(x, k),
-    }
-}
-
-// What a step says, and the record that it leaves.
-fn put_step(x: Spaces, k: KindStep, out: &mut [u8], p: usize) -> usize {
-    let left = after(x, k);
-    let q = put_said(x, k, out, p);
-    let q = put_slice(out, q, b" :");
-    let q = and_ends(left.initial, out, q);
-    let q = and_ends(left.handshake, out, q);
-    let q = and_ends(left.data, out, q);
-    put_slice(out, q, b";")
-}
-
-// A run of steps from a fresh record on.
-pub(crate) fn spaces(steps: &[u8], out: &mut [u8], p: usize) -> usize {
-    let mut x = Spaces::fresh();
-    let mut q = p;
-    let mut i = 0;
-    while i < steps.len() {
-        let k = read_step(steps, i);
-        q = put_step(x, k, out, q);
-        x = after(x, k);
-        if steps.len() - i < 14 {
-            return q;
+fn take_step(x: &mut Spaces, kind: Kind, step: Step, out: &mut Out) {
+    match step.op {
+        4..=6 => {
+            set_in(x, kind, step);
+            out.put(b"set");
         }
-        i += 14;
+        _ => out.say(call(x, kind, step)),
     }
-    q
+}
+
+// A run of steps from a fresh record on: what each says, and the record that it leaves.
+pub(crate) fn spaces(steps: &[u8], out: &mut Out) {
+    let mut x = Spaces::fresh();
+    for bytes in steps.chunks(14) {
+        match read_step(bytes) {
+            Ok((kind, step)) => take_step(&mut x, kind, step, out),
+            Err(_) => out.say(Ok(Answer::Bad)),
+        }
+        out.put(b" :");
+        for s in [x.initial, x.handshake, x.data] {
+            and_ends(s, out);
+        }
+        out.put(b";");
+    }
 }
