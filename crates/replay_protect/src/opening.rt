@@ -1,8 +1,9 @@
 // The operations of `protect` that read: the sample's place, and finish.
-use cases::line::Answer;
-use cases::{line, record};
-use coding::{Place, part, put_slice};
-use protect::{Finished, Kind, NumberLen, SamplePlace};
+use cases::line::{Answer, Out};
+use cases::record;
+use coding::{Place, Refusal};
+use protect::{Finished, Kind};
+use shared::CutNumber;
 
 // The kind of this number; 0 to 5.
 fn kind_by(n: u64) -> Kind {
@@ -16,125 +17,85 @@ fn kind_by(n: u64) -> Kind {
     }
 }
 
-// The place of a kind's words among all of them.
-fn kind_words(kind: Kind) -> Place {
+fn kind_words(kind: Kind) -> &'static [u8] {
     match kind {
-        Kind::Initial => Place { start: 0, len: 10 },
-        Kind::ZeroRtt => Place { start: 10, len: 7 },
-        Kind::Handshake => Place { start: 17, len: 12 },
-        Kind::Retry => Place { start: 29, len: 8 },
-        Kind::Short => Place { start: 37, len: 8 },
-        Kind::VersionNegotiate => Place { start: 45, len: 7 },
+        Kind::Initial => b"ok initial",
+        Kind::ZeroRtt => b"ok 0rtt",
+        Kind::Handshake => b"ok handshake",
+        Kind::Retry => b"ok retry",
+        Kind::Short => b"ok short",
+        Kind::VersionNegotiate => b"ok vneg",
     }
 }
 
-// What finish says: the number's length, its value and whether the reserved bits are clear, and the place of the words after
-// them: 0 or 1 for the key phase, none, or none of all four.
-#[derive(Clone, Copy)]
-struct Said {
-    number: NumberLen,
-    value: u64,
-    clear: u64,
-    last: Place,
+// A number's length and its value, and whether the reserved bits are clear.
+fn and_number(number: CutNumber, reserved_clear: bool, out: &mut Out) {
+    out.and_nums(&[
+        number.0 as u64,
+        u64::from(number.1),
+        u64::from(reserved_clear),
+    ]);
 }
 
-fn flag(is: bool) -> u64 {
-    if is { 1 } else { 0 }
-}
-
-fn said_of(finished: Finished) -> Said {
+// What finish says, `-` for what a packet of its kind does not have; and the number's length.
+fn and_finished(finished: Option<Finished>, out: &mut Out) -> Option<usize> {
     match finished {
-        Finished::Long {
-            number,
-            reserved_clear,
-        } => Said {
-            number: NumberLen::Bytes(number.0),
-            value: number.1 as u64,
-            clear: flag(reserved_clear),
-            last: Place { start: 4, len: 2 },
-        },
-        Finished::Short {
-            number,
-            reserved_clear,
-            key_phase,
-        } => Said {
-            number: NumberLen::Bytes(number.0),
-            value: number.1 as u64,
-            clear: flag(reserved_clear),
-            last: Place {
-                start: if key_phase { 2 } else { 0 },
-                len: 2,
+        Some(
+            Finished::Long {
+                number,
+                reserved_clear,
             },
-        },
-        _ => Said {
-            number: NumberLen::Nothing,
-            value: 0,
-            clear: 0,
-            last: Place { start: 4, len: 8 },
-        },
+        ) => {
+            and_number(number, reserved_clear, out);
+            out.put(b" -");
+            Some(number.0)
+        }
+        Some(
+            Finished::Short {
+                number,
+                reserved_clear,
+                key_phase,
+            },
+        ) => {
+            and_number(number, reserved_clear, out);
+            out.and_num(u64::from(key_phase));
+            Some(number.0)
+        }
+        None => {
+            out.put(b" - - - -");
+            None
+        }
     }
 }
 
-fn and_number(said: Said, out: &mut [u8], p: usize) -> usize {
-    let number = said.number;
-    let NumberLen::Bytes(k) = number else {
-        return p;
-    };
-    let ns = [k as u64, said.value, said.clear];
-    line::and_nums(out, p, &ns)
-}
-
-// What finish says, where it does not refuse, and the header and the payload that it leaves.
-fn and_said(said: Said, packet: &[u8], at: usize, out: &mut [u8], p: usize) -> usize {
-    let number = said.number;
-    let q = and_number(said, out, p);
-    let q = put_slice(out, q, part(b" 0 1 - - - -", said.last));
-    let q = line::and_hex(out, q, protect::header_part(packet, at, number));
-    line::and_hex(out, q, protect::payload_part(packet, at, number))
-}
-
-// What finish says of a packet, and the packet after it.
-fn put_finished(
-    kind: Kind,
-    finished: Finished,
-    packet: &[u8],
-    at: usize,
-    out: &mut [u8],
-    p: usize,
-) -> usize {
-    if let Finished::Refused(why) = finished {
-        let q = line::say(out, p, Answer::No(why));
-        return line::and_hex(out, q, packet);
-    }
-    let words = b"ok initialok 0rttok handshakeok retryok shortok vneg";
-    let q = put_slice(out, p, part(words, kind_words(kind)));
-    and_said(said_of(finished), packet, at, out, q)
-}
-
-// Finish of a packet, laid into work.
-pub(crate) fn finish(rec: &[u8], work: &mut [u8], out: &mut [u8], p: usize) -> usize {
+// Finish of a packet, laid into work, and the header and the payload that it leaves.
+pub(crate) fn finish(rec: &[u8], work: &mut [u8], out: &mut Out) {
     let ns = record::numbers_of(rec);
     let kind = kind_by(ns.n0);
     let at = ns.n1 as usize;
     let mask = record::five(record::bytes(rec, 0));
     let n = record::lay(work, record::bytes(rec, 1));
-    let finished = protect::finish(kind, &mut work[..n], at, mask);
-    put_finished(
-        kind,
-        finished,
-        part(work, Place { start: 0, len: n }),
-        at,
-        out,
-        p,
-    )
+    let packet = &mut work[..n];
+    match protect::finish(kind, packet, at, mask) {
+        Ok(finished) => {
+            out.put(kind_words(kind));
+            let number = and_finished(finished, out);
+            out.and_hex(protect::header_part(packet, at, number));
+            out.and_hex(protect::payload_part(packet, at, number));
+        }
+        Err(why) => {
+            out.say(Err(why));
+            out.and_hex(packet);
+        }
+    }
 }
 
-pub(crate) fn sample(rec: &[u8]) -> Answer {
+pub(crate) fn sample(rec: &[u8]) -> Result<Answer, Refusal> {
     let ns = record::numbers_of(rec);
-    let said = protect::sample_place(kind_by(ns.n0), record::bytes(rec, 0), ns.n1 as usize);
-    match said {
-        SamplePlace::At(place) => Answer::Two(place.start as u64, place.len as u64),
-        SamplePlace::Nothing => Answer::Nothing,
-        SamplePlace::Refused(why) => Answer::No(why),
+    let kind = kind_by(ns.n0);
+    let place = protect::sample_place(kind, record::bytes(rec, 0), ns.n1 as usize)?;
+    match place {
+        Some(Place { start, len }) => Ok(Answer::Two(start as u64, len as u64)),
+        None => Ok(Answer::Nothing),
     }
 }
