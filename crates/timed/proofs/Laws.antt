@@ -1,5 +1,6 @@
 -- What a turn of each loop comes to, and what a writer's answer is as a record.
-use Rattle.std.specs.Prelude.{if◌then◌else◌}
+use Rattle.std.specs.Prelude.{if◌then◌else◌, ◌⊎◌}
+use Rattle.std.proofs.Common.{inl, inr}
 use Prim.Native.Nat.{ℕ, zero, suc, ◌+◌, ◌-◌, ◌≤◌, ◌<◌, ◌^◌}
 use mathlib.Core.Path.{◌≡◌, refl, ◌∙◌, ap}
 use mathlib.Core.List.{List, ◌∷◌, map}
@@ -83,3 +84,12 @@ module _ (flag : ℕ) (w : Answer (List ℕ)) where
   pub flag_on : flag ≤ 1 → flagged flag w ≡ w
   unfolding flagged
   flag_on h = rw (le-ltb 1 flag h)
+
+-- two flags, as they are tested
+module _ (a b : ℕ) (w : Answer (List ℕ)) where
+  pub flags_no : (1 < a) ⊎ ((a ≤ 1) × (1 < b)) → flagged a (flagged b w) ≡ no 14
+  flags_no (inl i) = flag_no a (flagged b w) i
+  flags_no (inr i) = flag_on a (flagged b w) i.0 ∙ flag_no b w i.1
+
+  pub flags_on : a ≤ 1 → b ≤ 1 → flagged a (flagged b w) ≡ w
+  flags_on h k = flag_on a (flagged b w) h ∙ flag_on b w k
