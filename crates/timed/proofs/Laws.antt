@@ -1,23 +1,18 @@
 -- What a turn of each loop comes to, and what a writer's answer is as a record.
-use Rattle.std.specs.Prelude.{if◌then◌else◌, ◌⊎◌}
+use Rattle.std.specs.Prelude.{◌⊎◌}
 use Rattle.std.proofs.Common.{inl, inr}
-use Prim.Native.Nat.{ℕ, zero, suc, ◌+◌, ◌-◌, ◌≤◌, ◌<◌, ◌^◌}
+use Prim.Native.Nat.{ℕ, zero, suc, ◌+◌, ◌-◌, ◌≤◌, ◌<◌}
 use mathlib.Core.Path.{◌≡◌, refl, ◌∙◌, ap}
 use mathlib.Core.List.{List, ◌∷◌, map}
-use mathlib.Core.Bool.{Bool, true, false}
 use native.Mathlib.Numerals.{add-one}
 use native.Mathlib.Omega.{arith}
 use lib.ListN.{length, drop, get_or}
 use lib.Seq.{drop-cons, drop-length}
 use lib.Bits.{bit_xor}
-use lib.Dec.{ltb}
 use borrow.Author.Tests.{lt-ltb, le-ltb}
 use Rattle.coding.specs.Words.{cut, got, and_then, Answer, no, ok}
 use Rattle.coding.specs.Varint.{var_at}
 use Rattle.coding.specs.Writing.{Written}
-use Rattle.shared.specs.declared.kinds.CutNumber.{CutNumber}
-use Rattle.number.specs.Cutting.{is_cut}
-use Rattle.number.specs.Expanding.{expanded}
 use Rattle.timed.specs.Timed.{gathered_from, gathered, vars_from, vars_of, write_record, flagged, Writes}
 use Rattle.timed.specs.declared.WriteAnswer.{WriteAnswer}
 

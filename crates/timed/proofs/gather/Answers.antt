@@ -1,4 +1,4 @@
-use Rattle.std.proofs.Common.{refl, sym, ◌∙◌, arith}
+use Rattle.std.proofs.Common.{refl, sym, ◌∙◌}
 use Rattle.coding.specs.Said.{answer_of}
 use Rattle.timed.specs.Timed.{gathered}
 use Rattle.timed.proofs.Laws.{none, stops, goes_on}
