@@ -4,37 +4,18 @@
 mod header; // header.rt: a header's text
 mod reading; // reading.rt: header decode, split, walk, dump
 
-use cases::line::Answer;
-use cases::record::Turn;
-use cases::{line, stdio};
-use coding::{Place, part};
+use cases::line::{Answer, Out};
+use cases::stdio;
 
-// The answer of an operation to a record's fields, put at a place of out.
-fn answer(op: u8, rec: &[u8], out: &mut [u8], at: usize) -> usize {
+// Puts the answer of an operation to a record's fields.
+fn answer(op: u8, rec: &[u8], out: &mut Out) {
     match op {
-        32 | 33 | 46 => reading::asked(op, rec, out, at),
-        35 => reading::dump(rec, out, at),
-        _ => line::say(out, at, Answer::Bad),
-    }
-}
-
-fn run(rt: HostRuntime, buf: &mut [u8], out: &mut [u8]) {
-    let mut at = 0;
-    let mut count = 0;
-    while count < stdio::MOST {
-        let t = stdio::next(rt.stdin(), buf);
-        let Turn::Record(op, len) = t else {
-            stdio::end(rt.stdout(), out, at, t, count);
-            return;
-        };
-        let p = answer(op, part(buf, Place { start: 0, len }), out, at);
-        at = stdio::end_line(rt.stdout(), out, p);
-        count += 1;
+        32 | 33 | 46 => reading::asked(op, rec, out),
+        35 => reading::dump(rec, out),
+        _ => out.say(Ok(Answer::Bad)),
     }
 }
 
 fn main(rt: HostRuntime) {
-    let mut buf = stdio::room();
-    let mut out = stdio::lines();
-    run(rt, &mut buf, &mut out);
+    stdio::run(rt, answer);
 }

@@ -1,179 +1,132 @@
 // The operations of `packet`: header decode, split, the walk; and the dump's text.
 use crate::header;
-use cases::line::Answer;
-use cases::record::Numbers;
-use cases::{line, record};
-use coding::{Place, PlaceRead, Wrote, part, put_slice};
-use packet::{Decoded, Found, PartialDecode, ProtectedHeader, Rest};
+use cases::line::{Answer, Out};
+use cases::record;
+use coding::Place;
+use packet::{Decoded, PacketDecodeError, PartialDecode, StepError, Stepped};
 
 // More steps than a datagram has packets.
 const MOST_STEPS: usize = 70_000;
 
-// An operation on a datagram that takes the local CID's length, whether there is grease, and the versions; there is room for
-// more of these than the rule allows.
-pub(crate) fn asked(op: u8, rec: &[u8], out: &mut [u8], p: usize) -> usize {
-    let mut list = [0u32; 32];
-    let n = record::words(record::bytes(rec, 0), &mut list);
-    read(
-        op,
-        record::numbers_of(rec),
-        record::bytes(rec, 1),
-        &list[..n],
-        out,
-        p,
-    )
+// How a datagram is read: the local CID's length, the versions, and whether there is grease.
+#[derive(Clone, Copy)]
+struct Reader<'a> {
+    local: usize,
+    versions: &'a [u32],
+    grease: bool,
 }
 
-fn read(op: u8, ns: Numbers, s: &[u8], versions: &[u32], out: &mut [u8], p: usize) -> usize {
-    match op {
-        32 => split(ns, s, versions, out, p),
-        33 => walk(ns, s, versions, out, p),
-        _ => header::put(decode(ns, s, versions), out, p),
+impl Reader<'_> {
+    fn decode(self, s: &[u8]) -> Result<Decoded, PacketDecodeError> {
+        packet::decode(s, self.local, self.versions, self.grease)
+    }
+
+    fn split(self, s: &[u8]) -> Result<PartialDecode, PacketDecodeError> {
+        packet::split(s, self.local, self.versions, self.grease)
+    }
+
+    fn step(self, s: &[u8], at: usize) -> Result<Option<Stepped>, StepError> {
+        packet::step(s, at, self.local, self.versions, self.grease)
     }
 }
 
-fn decode(ns: Numbers, s: &[u8], versions: &[u32]) -> Decoded {
-    packet::decode(s, ns.n0 as usize, versions, ns.n1 == 1)
-}
-
-fn and_rest(packet: PartialDecode, s: &[u8], out: &mut [u8], p: usize) -> usize {
-    let rest = packet.rest;
-    match rest {
-        Rest::At(_) => line::and_hex(out, p, packet.rest(s)),
-        Rest::Nothing => put_slice(out, p, b" none"),
+// An operation on a datagram that takes a reader; there is room for more versions than the rule allows.
+pub(crate) fn asked(op: u8, rec: &[u8], out: &mut Out) {
+    let ns = record::numbers_of(rec);
+    let mut list = [0; 32];
+    let n = record::words(record::bytes(rec, 0), &mut list);
+    let reader = Reader {
+        local: ns.n0 as usize,
+        versions: &list[..n],
+        grease: ns.n1 == 1,
+    };
+    let s = record::bytes(rec, 1);
+    match op {
+        32 => split(reader, s, out),
+        33 => walk(reader, s, out),
+        _ => header::put(reader.decode(s), out),
     }
 }
 
 // The packet, the rest and the token, as parts of the datagram.
-fn and_parts(packet: PartialDecode, s: &[u8], out: &mut [u8], p: usize) -> usize {
-    let q = line::and_hex(out, p, packet.data(s));
-    let q = and_rest(packet, s, out, q);
-    line::and_hex(out, q, packet.token(packet.data(s)))
-}
-
-fn split(ns: Numbers, s: &[u8], versions: &[u32], out: &mut [u8], p: usize) -> usize {
-    let packet = packet::split(s, ns.n0 as usize, versions, ns.n1 == 1);
-    let plain = packet.plain_header;
-    let head = plain.header;
-    let q = header::put(plain, out, p);
-    if let ProtectedHeader::Refused(_) = head {
-        return q;
+fn and_parts(packet: PartialDecode, s: &[u8], out: &mut Out) {
+    let data = packet.data(s);
+    out.and_hex(data);
+    match packet.rest {
+        Some(_) => out.and_hex(packet.rest(s)),
+        None => out.put(b" none"),
     }
-    and_parts(packet, s, out, q)
+    out.and_hex(packet.token(data));
 }
 
-// A step of the walk: a packet with its kind, number offset and the place past it; or the end, with a refusal's number or 0.
-#[derive(Clone, Copy)]
-enum Met {
-    Packet(Place, Place, usize),
-    Last(usize, u64),
-}
-
-// A refusal's number, or 0.
-fn number(header: ProtectedHeader) -> u64 {
-    let ProtectedHeader::Refused(why) = header else {
-        return 0;
-    };
-    why.number() as u64
-}
-
-fn step(ns: Numbers, s: &[u8], at: usize, versions: &[u32]) -> Met {
-    let stepped = packet::step(s, at, ns.n0 as usize, versions, ns.n1 == 1);
-    let found = stepped.found;
-    let plain = stepped.plain_header;
-    let head = plain.header;
-    match found {
-        Found::Packet(place) => Met::Packet(place, header::kind(head), plain.number_offset),
-        Found::Refused(start) => Met::Last(start, number(head)),
-        Found::End => Met::Last(s.len(), 0),
+fn split(reader: Reader<'_>, s: &[u8], out: &mut Out) {
+    let packet = reader.split(s);
+    header::put(packet.map(|packet| packet.plain_header), out);
+    if let Ok(packet) = packet {
+        and_parts(packet, s, out);
     }
 }
 
 // The place past n bytes from a place on.
 fn past(s: &[u8], at: usize, n: usize) -> usize {
-    let PlaceRead::At(_, next) = coding::take(s, at, n as u64) else {
-        return s.len();
-    };
-    next
-}
-
-// How a walk ends: at a place, with a refusal's number, or 0.
-fn put_last(at: usize, number: u64, out: &mut [u8], p: usize) -> usize {
-    let word = if number == 0 {
-        Place { start: 0, len: 3 }
-    } else {
-        Place { start: 3, len: 7 }
-    };
-    let q = put_slice(out, p, part(b"endrefused", word));
-    let q = line::and_num(out, q, at as u64);
-    if number == 0 {
-        return q;
+    match coding::take(s, at, n as u64) {
+        Ok((_, next)) => next,
+        Err(_) => s.len(),
     }
-    line::and_num(out, q, number)
 }
 
 // A packet of the walk.
-fn put_packet(place: Place, kind: Place, offset: usize, out: &mut [u8], p: usize) -> usize {
-    let q = line::num(out, p, place.start as u64);
-    let q = line::and_num(out, q, place.len as u64);
-    let q = header::and_kind(kind, out, q);
-    let q = line::and_num(out, q, offset as u64);
-    put_slice(out, q, b"; ")
+fn put_packet(packet: Place, plain: Decoded, out: &mut Out) {
+    out.num(packet.start as u64);
+    out.and_num(packet.len as u64);
+    out.put(header::kind(plain.header));
+    out.and_num(plain.number_offset as u64);
+    out.put(b"; ");
 }
 
-fn walk(ns: Numbers, s: &[u8], versions: &[u32], out: &mut [u8], p: usize) -> usize {
-    let mut q = p;
+fn walk(reader: Reader<'_>, s: &[u8], out: &mut Out) {
     let mut at = 0;
-    let mut i = 0;
-    while i < MOST_STEPS {
-        let m = step(ns, s, at, versions);
-        match m {
-            Met::Packet(place, kind, offset) => {
-                q = put_packet(place, kind, offset, out, q);
-                at = past(s, place.start, place.len);
+    for _ in 0..MOST_STEPS {
+        match reader.step(s, at) {
+            Ok(Some(step)) => {
+                put_packet(step.packet, step.plain_header, out);
+                at = past(s, step.packet.start, step.packet.len);
             }
-            Met::Last(end, number) => {
-                return put_last(end, number, out, q);
+            Ok(None) => {
+                out.put(b"end");
+                out.and_num(s.len() as u64);
+                return;
+            }
+            Err(StepError { start, why }) => {
+                out.put(b"refused");
+                out.and_nums(&[start as u64, u64::from(why.refusal().number())]);
+                return;
             }
         }
-        i += 1;
     }
-    q
 }
 
-// A character of a text of lines, where they are to be one.
-fn in_line(c: u8) -> u8 {
-    if c == b'\n' { b';' } else { c }
-}
-
-// The first n characters of a text as one line.
-fn one_line(text: &mut [u8], n: usize) -> usize {
-    let mut i = 0;
-    while i < text.len() {
-        if n <= i {
-            return n;
+// The dump of a datagram into a part of the room that has so many bytes, as one line.
+pub(crate) fn dump(rec: &[u8], out: &mut Out) {
+    let room = record::numbers_of(rec).n0;
+    let at = out.at;
+    let Some(left) = out.text.len().checked_sub(at) else {
+        return;
+    };
+    if (left as u64) < room {
+        out.say(Ok(Answer::Bad));
+        return;
+    }
+    let text = &mut out.text[at..at + room as usize];
+    match dump_text::dump(record::bytes(rec, 0), text) {
+        Ok(n) => {
+            for c in text.iter_mut().take(n) {
+                if *c == b'\n' {
+                    *c = b';';
+                }
+            }
+            out.at = past(&out.text, at, n);
         }
-        text[i] = in_line(text[i]);
-        i += 1;
-    }
-    n
-}
-
-// The dump of a datagram into a part of out that has room for so many bytes.
-pub(crate) fn dump(rec: &[u8], out: &mut [u8], p: usize) -> usize {
-    let ns = record::numbers_of(rec);
-    if out.len() < p {
-        return p;
-    }
-    if ((out.len() - p) as u64) < ns.n0 {
-        return line::say(out, p, Answer::Bad);
-    }
-    let end = p + ns.n0 as usize;
-    match dump_text::dump(record::bytes(rec, 0), &mut out[p..end]) {
-        Wrote::Len(n) => {
-            let len = one_line(&mut out[p..end], n);
-            past(out, p, len)
-        }
-        Wrote::Refused(why) => line::say(out, p, Answer::No(why)),
+        Err(why) => out.say(Err(why)),
     }
 }
