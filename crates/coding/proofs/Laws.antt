@@ -1,6 +1,6 @@
 -- Laws of the definitions, for this crate's proofs and those above it.
 use Rattle.std.specs.Prelude.{if◌then◌else◌}
-use mathlib.Core.Path.{◌≡◌, refl, sym, ap}
+use mathlib.Core.Path.{◌≡◌, refl, sym, ap, ◌∙◌}
 use mathlib.Core.List.{List, [], ◌∷◌, ◌++◌, append_assoc}
 use mathlib.Core.Bool.{Bool, true, false}
 use Prim.Native.Nat.{ℕ, zero, suc, ◌+◌, ◌-◌, ◌*◌, ◌/◌, ◌%◌, ◌^◌, ◌≤◌, ◌<◌}
@@ -19,7 +19,8 @@ use Rattle.coding.specs.Varint.{var_len, var_at, var_tag, var_size, var_bytes, i
 use Rattle.coding.specs.Places.{part_of, start_of}
 use Rattle.coding.specs.Refusals.{number_of}
 use Rattle.std.specs.Prelude.{Result, Ok, Err}
-use Rattle.coding.specs.Said.{answer_of, read_of, number_read, Below}
+use Rattle.coding.specs.Said.{answer_of, found_by, Reads}
+use Rattle.coding.specs.declared.reader.Reader.{Reader}
 use Rattle.coding.specs.declared.Place.{Place}
 use Rattle.coding.specs.declared.refusal.Refusal.{Refusal}
 use Rattle.coding.specs.declared.refusal.UnexpectedEnd.{UnexpectedEnd}
@@ -190,24 +191,23 @@ pub sized_no : (r : Result ℕ Refusal) (x : ℕ) (why : Refusal) → answer_of 
 unfolding answer_of var_sized
 sized_no r x why p q = rw (in62_is x (number_of why) (var_size x) (sym (rw q at p))) (out_none x (in62_no x (number_of why) (var_size x) (sym (rw q at p))))
 
--- a number that was read, by what was seen of the answer
-pub num_read : {T : Type 0} (number : T → ℕ) (r : Result (ℕ × ℕ) UnexpectedEnd) (g : Got ℕ) (x n : ℕ) (y : T)
-    → read_of r ≡ g → r ≡ Ok (x, n) → number y ≡ x → number_read number (Ok (y, n)) ≡ g
-unfolding read_of number_read
-num_read number r g x n y p q e = rw e (rw q at p)
+-- a read, by what it finds: a value, and the reader past it; or that the field is cut, and the reader as it was
+module _ {A B : Type 0} (f : A → B) (m : Got B) (old new : Reader) where
+  pub reads_on : (x : A) (n : ℕ) → got (f x) n ≡ m → new.bytes ≡ old.bytes → new.at ≡ n → Reads f m old (Ok x) new
+  unfolding found_by
+  reads_on x n e b p = record {
+    finds = ap (got (f x)) p ∙ e;
+    bytes = b;
+    stays = λ h. let z : ◌≡◌ {A = ℕ} 1 0 = ap is_got (e ∙ h) in absurd (omega arith);
+  }
+    where
+      is_got : Got B → ℕ
+      is_got cut = 0
+      is_got (got b n) = 1
 
-pub number_same : (r : Result (ℕ × ℕ) UnexpectedEnd) → number_read (λ x. x) r ≡ read_of r
-unfolding read_of number_read
-number_same (Ok (x, n)) = refl
-number_same (Err e) = refl
-
-pub num_end : {T : Type 0} (number : T → ℕ) (r : Result (ℕ × ℕ) UnexpectedEnd) (g : Got ℕ) (end : UnexpectedEnd)
-    → read_of r ≡ g → r ≡ Err end → number_read number (Err end) ≡ g
-unfolding read_of number_read
-num_end number r g end p q = rw q at p
-
-pub below_num : (r : Result (ℕ × ℕ) UnexpectedEnd) (m x n : ℕ) → Below r m → r ≡ Ok (x, n) → x < m
-below_num r m x n p q = rw q at p
+  pub reads_cut : (e : UnexpectedEnd) → cut ≡ m → new ≡ old → Reads f m old (Err e) new
+  unfolding found_by
+  reads_cut e h p = record { finds = h; bytes = ap (λ (r : Reader). r.bytes) p; stays = λ k. ap (λ (r : Reader). r.at) p }
 
 -- ---- a part
 

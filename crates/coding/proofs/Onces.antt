@@ -9,13 +9,16 @@ use denote.RattleType.{RattleType}
 use Rattle.coding.specs.declared.codec.Codec
 use Rattle.coding.specs.Words.{Answer}
 use Rattle.coding.specs.Once.{Once}
-use Rattle.coding.specs.Reading.{fixed_at}
 use Rattle.coding.specs.Places.{Part}
 use Rattle.std.specs.Prelude.{Result}
-use Rattle.coding.specs.Said.{answer_of}
+use Rattle.coding.specs.Said.{answer_of, var_value}
+use Rattle.coding.specs.declared.Place.{Place}
+use Rattle.coding.specs.declared.reader.Reader.{Reader}
+use Rattle.coding.specs.declared.refusal.UnexpectedEnd.{UnexpectedEnd}
+use Rattle.coding.specs.declared.varint.VarInt.{VarInt}
 use Rattle.coding.specs.declared.refusal.Refusal.{Refusal}
 use Rattle.coding.specs.Writing.{Written, Put}
-use Rattle.coding.proofs.Inverse.{read_one, number_one, var_one, made_one, answer_one}
+use Rattle.coding.proofs.Inverse.{reads_one, made_one, answer_one}
 use Rattle.coding.specs.contracts.refusal.Refusal.number as number
 use Rattle.coding.proofs.refusal.Refusal.number.Reads as number_reads
 use Rattle.coding.specs.contracts.varint.VarInt.from_u32 as from_u32
@@ -28,12 +31,12 @@ use Rattle.coding.specs.contracts.varint.VarInt.size as size
 use Rattle.coding.proofs.varint.VarInt.size.Reads as size_reads
 use Rattle.coding.specs.contracts.varint.VarInt.encode as encode
 use Rattle.coding.proofs.varint.VarInt.encode.Reads as encode_reads
-use Rattle.coding.specs.contracts.get as get
-use Rattle.coding.proofs.get.Reads as get_reads
-use Rattle.coding.specs.contracts.get_var as get_var
-use Rattle.coding.proofs.get_var.Reads as get_var_reads
-use Rattle.coding.specs.contracts.take as take
-use Rattle.coding.proofs.take.Reads as take_reads
+use Rattle.coding.specs.contracts.reader.Reader.get as get
+use Rattle.coding.proofs.reader.Reader.get.Reads as get_reads
+use Rattle.coding.specs.contracts.reader.Reader.get_var as get_var
+use Rattle.coding.proofs.reader.Reader.get_var.Reads as get_var_reads
+use Rattle.coding.specs.contracts.reader.Reader.take as take
+use Rattle.coding.proofs.reader.Reader.take.Reads as take_reads
 use Rattle.coding.specs.contracts.part as part
 use Rattle.coding.proofs.part.Reads as part_reads
 use Rattle.coding.specs.contracts.put as put
@@ -89,13 +92,13 @@ encode_once κs a x y s t p q = one_written _ _ x y _ _ p q
 
 -- ---- reads
 
-get_var_once : Once get_var.ended get_var_reads.Post (λ κs x s. x)
+get_var_once : Once {B = Result VarInt UnexpectedEnd × Reader} get_var.ended get_var_reads.Post (λ κs x s. (x, s.0.now))
 unfolding Once
-get_var_once κs a x y s t p q = var_one x y _ p q
+get_var_once κs a x y s t p q = reads_one var_value (λ v w e i. record { 0 = e i }) _ _ _ _ x y p q
 
-take_once : Once take.ended take_reads.Post (λ κs x s. x)
+take_once : Once {B = Result Place UnexpectedEnd × Reader} take.ended take_reads.Post (λ κs x s. (x, s.0.now))
 unfolding Once
-take_once κs a x y s t p q = read_one x y _ p q
+take_once κs a x y s t p q = reads_one (λ p. p) (λ v w e. e) _ _ _ _ x y p q
 
 part_once : Once part.ended part_reads.Post (λ κs x s. seen x)
 unfolding Once
@@ -123,9 +126,9 @@ write_var_once κs a x y s t p q = one_put _ _ _ x y _ _ p q
 
 -- of any type whose numbers tell its values: the law `one` of Codec
 module _ (T : RattleType) (laws : Laws T) (g : Codec.Ghosts T.Denot) (d : Dict) (one : (x y : T.Denot) → g.number x ≡ g.number y → x ≡ y) where
-  get_once : Once (get.ended T g d) (get_reads.Post T laws g d) (λ κs x s. x)
+  get_once : Once {B = Result T.Denot UnexpectedEnd × Reader} (get.ended T g d) (get_reads.Post T laws g d) (λ κs x s. (x, s.0.now))
   unfolding Once
-  get_once κs a x y s t p q = number_one g.number one x y (fixed_at g.size a.0.now a.1.0) p q
+  get_once κs a x y s t p q = reads_one g.number one _ _ _ _ x y p q
 
   put_once : Once {B = ℕ × List ℕ} (put.ended T g d) (put_reads.Post T laws g d) (λ κs x s. (x, s.0.now))
   unfolding Once

@@ -1,6 +1,7 @@
 -- The lists of lemmas that a `search` at a return takes.
 use Rattle.std.specs.Prelude.{if◌then◌else◌}
-use mathlib.Core.Path.{◌≡◌, refl}
+use mathlib.Core.Path.{◌≡◌, refl, ap, ◌∙◌}
+use denote.Ref.{Bor}
 use Prim.Native.Nat.{ℕ, ◌≤◌, ◌<◌}
 use mathlib.Core.List.{List}
 use mathlib.Core.Bool.{Bool, true, false}
@@ -10,10 +11,10 @@ use Rattle.coding.specs.Words.{Got, cut, got, and_then}
 use Rattle.coding.specs.Reading.{fixed_at, take_at}
 use Rattle.coding.specs.Varint.{var_at}
 use Rattle.std.specs.Prelude.{Result, Ok, Err}
-use Rattle.coding.specs.Said.{read_of, number_read, var_of}
+use Rattle.coding.specs.Said.{found_by, Reads}
 use Rattle.coding.specs.declared.Place.{Place}
+use Rattle.coding.specs.declared.reader.Reader.{Reader}
 use Rattle.coding.specs.declared.refusal.UnexpectedEnd.{UnexpectedEnd}
-use Rattle.coding.specs.declared.varint.VarInt.{VarInt}
 
 -- a test on the way says which case of a definition holds
 pub ruleset tests = (lt-ltb, le-ltb, le-leb, lt-leb, eq-eqb, ne_eqb)
@@ -40,34 +41,39 @@ module _ {A : Type 0} (a b : ℕ) (x p q : A) where
 
 pub ruleset choices = (lt_yes, lt_no, le_yes, le_no, eq_yes, eq_no)
 
--- a read on the way was answered r, which was seen to be a value or the end: so goes the definition
-module _ {A : Type 0} (x stop : A) (s : List ℕ) (at : ℕ) where
-  module _ (f : ℕ → ℕ → A) (n : ℕ) {T : Type 0} (number : T → ℕ) (r : Result (T × ℕ) UnexpectedEnd) (e : number_read number r ≡ fixed_at n s at) where
-    pub num_on : (v : T) (next : ℕ) → r ≡ Ok (v, next) → x ≡ f (number v) next → x ≡ and_then (fixed_at n s at) stop f
-    unfolding and_then number_read
-    num_on v next q h = rw (← e, q) h
+-- a reader of s, where the definition stands, found a value, or that the field is cut: so goes the definition. What follows is
+-- read from s too.
+module _ {A T : Type 0} (x stop : A) (s : List ℕ) (at : ℕ) (old new : Reader) (r : Result T UnexpectedEnd)
+    (same : old.bytes.now ≡ s) (place : old.at ≡ at) where
+  module _ {B : Type 0} (f : B → ℕ → A) (v : T → B) (found : List ℕ → ℕ → Got B) (e : Reads v (found old.bytes.now old.at) old r new) where
+    read_on : (y : T) → r ≡ Ok y → (new.bytes.now ≡ s → x ≡ f (v y) new.at) → x ≡ and_then (found s at) stop f
+    unfolding and_then found_by
+    read_on y q h = rw (← same, ← place, ← e.finds, q) (h (ap (λ (b : Bor (List ℕ)). b.now) e.bytes ∙ same))
 
-    pub num_cut : (end : UnexpectedEnd) → r ≡ Err end → x ≡ stop → x ≡ and_then (fixed_at n s at) stop f
-    unfolding and_then number_read
-    num_cut end q h = rw (← e, q) h
+    read_cut : (end : UnexpectedEnd) → r ≡ Err end → x ≡ stop → x ≡ and_then (found s at) stop f
+    unfolding and_then found_by
+    read_cut end q h = rw (← same, ← place, ← e.finds, q) h
 
-  module _ (f : ℕ → ℕ → A) (r : Result (VarInt × ℕ) UnexpectedEnd) (e : var_of r ≡ var_at s at) where
-    pub var_on : (v : VarInt) (n : ℕ) → r ≡ Ok (v, n) → x ≡ f v.0 n → x ≡ and_then (var_at s at) stop f
-    unfolding and_then var_of
-    var_on v n q h = rw (← e, q) h
+  module _ (f : ℕ → ℕ → A) (v : T → ℕ) (e : Reads v (var_at old.bytes.now old.at) old r new) where
+    pub var_on : (y : T) → r ≡ Ok y → (new.bytes.now ≡ s → x ≡ f (v y) new.at) → x ≡ and_then (var_at s at) stop f
+    var_on = read_on f v var_at e
 
     pub var_cut : (end : UnexpectedEnd) → r ≡ Err end → x ≡ stop → x ≡ and_then (var_at s at) stop f
-    unfolding and_then var_of
-    var_cut end q h = rw (← e, q) h
+    var_cut = read_cut f v var_at e
 
-  module _ (f : Place → ℕ → A) (k : ℕ) (r : Result (Place × ℕ) UnexpectedEnd) (e : read_of r ≡ take_at k s at) where
-    pub place_on : (v : Place) (n : ℕ) → r ≡ Ok (v, n) → x ≡ f v n → x ≡ and_then (take_at k s at) stop f
-    unfolding and_then read_of
-    place_on v n q h = rw (← e, q) h
+  module _ (f : ℕ → ℕ → A) (v : T → ℕ) (n : ℕ) (e : Reads v (fixed_at n old.bytes.now old.at) old r new) where
+    pub num_on : (y : T) → r ≡ Ok y → (new.bytes.now ≡ s → x ≡ f (v y) new.at) → x ≡ and_then (fixed_at n s at) stop f
+    num_on = read_on f v (fixed_at n) e
 
-    pub place_cut : (end : UnexpectedEnd) → r ≡ Err end → x ≡ stop → x ≡ and_then (take_at k s at) stop f
-    unfolding and_then read_of
-    place_cut end q h = rw (← e, q) h
+    pub num_cut : (end : UnexpectedEnd) → r ≡ Err end → x ≡ stop → x ≡ and_then (fixed_at n s at) stop f
+    num_cut = read_cut f v (fixed_at n) e
+
+  module _ (f : Place → ℕ → A) (v : T → Place) (n : ℕ) (e : Reads v (take_at n old.bytes.now old.at) old r new) where
+    pub place_on : (y : T) → r ≡ Ok y → (new.bytes.now ≡ s → x ≡ f (v y) new.at) → x ≡ and_then (take_at n s at) stop f
+    place_on = read_on f v (take_at n) e
+
+    pub place_cut : (end : UnexpectedEnd) → r ≡ Err end → x ≡ stop → x ≡ and_then (take_at n s at) stop f
+    place_cut = read_cut f v (take_at n) e
 
 -- a run of reads and tests
 pub ruleset steps = (var_on, var_cut, place_on, place_cut, num_on, num_cut, choices)

@@ -1,5 +1,5 @@
 -- The words of every definition: what a read finds, and what a call answers.
-use Rattle.std.specs.Prelude.{ℕ, ◌^◌, Bool, true, false}
+use Rattle.std.specs.Prelude.{ℕ, ◌^◌}
 
 -- what a read at a place finds: a value and the place past it, or that the field is cut
 -- (by itself that is refusal 10; in a header it is 1, 3 or 6)

@@ -2,10 +2,10 @@
 ghost use Rattle.std.specs.Prelude.{◌≡◌, ℕ};
 ghost use Rattle.coding.specs.Bytes.{bytes_be};
 ghost use Rattle.coding.specs.Reading.{fixed_at};
-ghost use Rattle.coding.specs.Said.{number_read};
+ghost use Rattle.coding.specs.Said.{Reads};
 ghost use Rattle.coding.specs.Writing.{Put};
 
-use crate::{UnexpectedEnd, get_be, put_num};
+use crate::{Reader, UnexpectedEnd, put_num};
 
 // What is read and written as so many bytes, most significant first.
 pub trait Codec {
@@ -15,9 +15,9 @@ pub trait Codec {
     // the number that they make
     ghost number: { Self → ℕ };
 
-    // The value at a cursor, and the place past it.
-    fn decode(s: &[u8], at: usize) -> Result<(Self, usize), UnexpectedEnd>
-        ensures { number_read number result ≡ fixed_at size s.now at };
+    // The value that is read next.
+    fn decode(r: &mut Reader) -> Result<Self, UnexpectedEnd>
+        ensures { Reads number (fixed_at size r.old.bytes.now r.old.at) r.old result r.new };
 
     // Puts the value at a place, and answers the next; where it does not fit, the place, and buf is as it was.
     fn put(self, buf: &mut [u8], at: usize) -> usize
@@ -34,9 +34,9 @@ impl Codec for u8 {
 
     ghost one = { λ x y e. e };
 
-    fn decode(s: &[u8], at: usize) -> Result<(u8, usize), UnexpectedEnd> {
-        let (x, next) = get_be(s, at, 1)?;
-        Ok((x as u8, next))
+    fn decode(r: &mut Reader) -> Result<u8, UnexpectedEnd> {
+        let x = r.be(1)?;
+        Ok(x as u8)
     }
 
     fn put(self, buf: &mut [u8], at: usize) -> usize {
@@ -51,9 +51,9 @@ impl Codec for u16 {
 
     ghost one = { λ x y e. e };
 
-    fn decode(s: &[u8], at: usize) -> Result<(u16, usize), UnexpectedEnd> {
-        let (x, next) = get_be(s, at, 2)?;
-        Ok((x as u16, next))
+    fn decode(r: &mut Reader) -> Result<u16, UnexpectedEnd> {
+        let x = r.be(2)?;
+        Ok(x as u16)
     }
 
     fn put(self, buf: &mut [u8], at: usize) -> usize {
@@ -68,9 +68,9 @@ impl Codec for u32 {
 
     ghost one = { λ x y e. e };
 
-    fn decode(s: &[u8], at: usize) -> Result<(u32, usize), UnexpectedEnd> {
-        let (x, next) = get_be(s, at, 4)?;
-        Ok((x as u32, next))
+    fn decode(r: &mut Reader) -> Result<u32, UnexpectedEnd> {
+        let x = r.be(4)?;
+        Ok(x as u32)
     }
 
     fn put(self, buf: &mut [u8], at: usize) -> usize {
@@ -85,8 +85,8 @@ impl Codec for u64 {
 
     ghost one = { λ x y e. e };
 
-    fn decode(s: &[u8], at: usize) -> Result<(u64, usize), UnexpectedEnd> {
-        get_be(s, at, 8)
+    fn decode(r: &mut Reader) -> Result<u64, UnexpectedEnd> {
+        r.be(8)
     }
 
     fn put(self, buf: &mut [u8], at: usize) -> usize {

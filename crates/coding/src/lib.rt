@@ -1,20 +1,20 @@
-// Reading at a slice and a cursor, and writing into a lent buffer (coding.rs). All of it is total: a cursor or a place
-// past the slice reads as a cut field, and a put that does not fit changes nothing.
+// Reading from a slice, and writing into a lent buffer (coding.rs). All of it is total: a place past the slice reads as a
+// cut field, and a put that does not fit changes nothing.
 #![tactic(auto)]
 
 mod codec; // codec.rt: numbers of a known length
+mod reader; // reader.rt: reading from a place on
 mod refusal; // refusal.rt: what a call may say no with
 mod varint; // varint.rt: variable-length integers
 
-ghost use Rattle.std.specs.Prelude.{◌≡◌, ◌+◌, ◌≤◌, ◌<◌, ◌*◌, ◌^◌, length, take, drop};
-ghost use Rattle.coding.specs.Bytes.{be, bytes_be, splice};
-ghost use Rattle.coding.specs.Reading.{fixed_at, take_at};
-ghost use Rattle.coding.specs.Varint.{var_len, var_at, var_put};
+ghost use Rattle.std.specs.Prelude.{◌≡◌, ◌+◌, ◌≤◌, length};
+ghost use Rattle.coding.specs.Bytes.{bytes_be, splice};
+ghost use Rattle.coding.specs.Varint.{var_put};
 ghost use Rattle.coding.specs.Writing.{Put};
 ghost use Rattle.coding.specs.Places.{Part, start_of, part_of};
-ghost use Rattle.coding.specs.Said.{read_of, number_read, var_of, Below};
 
 pub use codec::Codec;
+pub use reader::Reader;
 pub use refusal::{Refusal, UnexpectedEnd};
 pub use varint::VarInt;
 
@@ -32,80 +32,6 @@ pub const MAX_NUMBER: u64 = NUMBER_END - 1;
 pub struct Place {
     pub start: usize,
     pub len: usize,
-}
-
-// The number that the n bytes from `at` on make after `first`, most significant first.
-fn be_from(s: &[u8], at: usize, n: usize, first: u64) -> u64
-    requires { (at + n ≤ length s.now) × ((first + 1) * 256 ^ n ≤ 2 ^ 64) }
-    ensures { (result ≡ be first (take n (drop at s.now))) × (result < (first + 1) * 256 ^ n) }
-{
-    let mut v = first;
-    for b in &s[at..at + n] {
-        v = v * 256 + *b as u64;
-    }
-    v
-}
-
-// The number of n bytes at a cursor, and the place past it.
-fn get_be(s: &[u8], at: usize, n: usize) -> Result<(u64, usize), UnexpectedEnd>
-    requires { n ≤ 8 }
-    ensures { (read_of result ≡ fixed_at n s.now at) × Below result (256 ^ n) }
-{
-    if s.len() < at || s.len() - at < n {
-        return Err(UnexpectedEnd);
-    }
-    Ok((be_from(s, at, n, 0), at + n))
-}
-
-// The value of a type at a cursor, and the place past it.
-pub fn get<T: Codec>(s: &[u8], at: usize) -> Result<(T, usize), UnexpectedEnd>
-    ensures { number_read T.number result ≡ fixed_at T.size s.now at }
-{
-    T::decode(s, at)
-}
-
-// The length that an integer's first byte gives.
-fn var_len(first: u8) -> usize
-    ensures { (result ≡ var_len first) × ((1 ≤ result) × (result ≤ 8)) }
-{
-    let tag = first / 64;
-    match tag {
-        0 => 1,
-        1 => 2,
-        2 => 4,
-        _ => 8,
-    }
-}
-
-// The integer at a cursor, in any of its forms.
-pub fn get_var(s: &[u8], at: usize) -> Result<(VarInt, usize), UnexpectedEnd>
-    ensures { var_of result ≡ var_at s.now at }
-{
-    if s.len() <= at {
-        return Err(UnexpectedEnd);
-    }
-    let first = s[at];
-    // most are of one byte, and are read without waiting for a length
-    if first < 64 {
-        return Ok((VarInt(first as u64), at + 1));
-    }
-    let n = var_len(first);
-    if s.len() - at < n {
-        return Err(UnexpectedEnd);
-    }
-    let v = be_from(s, at + 1, n - 1, (first % 64) as u64);
-    Ok((VarInt(v), at + n))
-}
-
-// The place of the n bytes at a cursor.
-pub fn take(s: &[u8], at: usize, n: u64) -> Result<(Place, usize), UnexpectedEnd>
-    ensures { read_of result ≡ take_at n s.now at }
-{
-    if s.len() < at || ((s.len() - at) as u64) < n {
-        return Err(UnexpectedEnd);
-    }
-    let len = n as usize;
-    Ok((Place { start: at, len }, at + len))
 }
 
 // The bytes at a place, or none where it does not lie inside.

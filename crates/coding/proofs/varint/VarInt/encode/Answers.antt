@@ -3,7 +3,7 @@ use lib.ListN.{length}
 use Prim.Native.Nat.{◌≤◌}
 use Rattle.coding.specs.Varint.{var_bytes}
 use native.Mathlib.Omega.{arith}
-use Rattle.coding.proofs.Laws.{sized_bytes, sized_no, out_some, out_none, put_some, length_var}
+use Rattle.coding.proofs.Laws.{sized_bytes, sized_no, out_some, put_some, length_var}
 use Rattle.coding.proofs.Writes.{written_no, written_short, written_ok, put_so}
 use Rattle.coding.specs.Said.{answer_of}
 use Rattle.coding.proofs.varint.VarInt.encode.Goals as goal

@@ -2,7 +2,7 @@ use native.Mathlib.Omega.{arith}
 use mathlib.Core.Path.{◌≡◌}
 use Prim.Native.Nat.{◌/◌}
 use Rattle.coding.specs.Varint.{var_len}
-use Rattle.coding.proofs.var_len.Goals as goal
+use Rattle.coding.proofs.reader.var_len.Goals as goal
 
 pub returns-in-0 : goal.returns-in-0
 unfolding var_len

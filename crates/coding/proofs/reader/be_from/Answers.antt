@@ -6,7 +6,7 @@ use Prim.Native.Nat.{ℕ, ◌+◌, ◌-◌, ◌*◌, ◌^◌, ◌≤◌, ◌<◌
 use lib.ListN.{take, drop, get_or}
 use Rattle.coding.specs.Bytes.{be}
 use Rattle.coding.proofs.Steps.{be_more, room, room_fits, part_len, part_at}
-use Rattle.coding.proofs.be_from.Goals as goal
+use Rattle.coding.proofs.reader.be_from.Goals as goal
 
 pub loop-b-init : goal.loop-b-init
 unfolding be
