@@ -23,7 +23,6 @@ use Rattle.coding.specs.Said.{answer_of, found_by, Reads}
 use Rattle.coding.specs.declared.reader.Reader.{Reader}
 use Rattle.coding.specs.declared.Place.{Place}
 use Rattle.coding.specs.declared.refusal.Refusal.{Refusal}
-use Rattle.coding.specs.declared.refusal.UnexpectedEnd.{UnexpectedEnd}
 
 -- ---- bytes
 
@@ -192,8 +191,8 @@ unfolding answer_of var_sized
 sized_no r x why p q = rw (in62_is x (number_of why) (var_size x) (sym (rw q at p))) (out_none x (in62_no x (number_of why) (var_size x) (sym (rw q at p))))
 
 -- a read, by what it finds: a value, and the reader past it; or that the field is cut, and the reader as it was
-module _ {A B : Type 0} (f : A → B) (m : Got B) (old new : Reader) where
-  pub reads_on : (x : A) (n : ℕ) → got (f x) n ≡ m → new.bytes ≡ old.bytes → new.at ≡ n → Reads f m old (Ok x) new
+module _ {A B E : Type 0} (f : A → B) (m : Got B) (old new : Reader) where
+  pub reads_on : (x : A) (n : ℕ) → got (f x) n ≡ m → new.bytes ≡ old.bytes → new.at ≡ n → Reads {E = E} f m old (Ok x) new
   unfolding found_by
   reads_on x n e b p = record {
     finds = ap (got (f x)) p ∙ e;
@@ -205,7 +204,7 @@ module _ {A B : Type 0} (f : A → B) (m : Got B) (old new : Reader) where
       is_got cut = 0
       is_got (got b n) = 1
 
-  pub reads_cut : (e : UnexpectedEnd) → cut ≡ m → new ≡ old → Reads f m old (Err e) new
+  pub reads_cut : (e : E) → cut ≡ m → new ≡ old → Reads f m old (Err e) new
   unfolding found_by
   reads_cut e h p = record { finds = h; bytes = ap (λ (r : Reader). r.bytes) p; stays = λ k. ap (λ (r : Reader). r.at) p }
 

@@ -14,7 +14,6 @@ use Rattle.std.specs.Prelude.{Result, Ok, Err}
 use Rattle.coding.specs.Said.{found_by, Reads}
 use Rattle.coding.specs.declared.Place.{Place}
 use Rattle.coding.specs.declared.reader.Reader.{Reader}
-use Rattle.coding.specs.declared.refusal.UnexpectedEnd.{UnexpectedEnd}
 
 -- a test on the way says which case of a definition holds
 pub ruleset tests = (lt-ltb, le-ltb, le-leb, lt-leb, eq-eqb, ne_eqb)
@@ -43,14 +42,14 @@ pub ruleset choices = (lt_yes, lt_no, le_yes, le_no, eq_yes, eq_no)
 
 -- a reader of s, where the definition stands, found a value, or that the field is cut: so goes the definition. What follows is
 -- read from s too.
-module _ {A T : Type 0} (x stop : A) (s : List ℕ) (at : ℕ) (old new : Reader) (r : Result T UnexpectedEnd)
+module _ {A T E : Type 0} (x stop : A) (s : List ℕ) (at : ℕ) (old new : Reader) (r : Result T E)
     (same : old.bytes.now ≡ s) (place : old.at ≡ at) where
   module _ {B : Type 0} (f : B → ℕ → A) (v : T → B) (found : List ℕ → ℕ → Got B) (e : Reads v (found old.bytes.now old.at) old r new) where
     read_on : (y : T) → r ≡ Ok y → (new.bytes.now ≡ s → x ≡ f (v y) new.at) → x ≡ and_then (found s at) stop f
     unfolding and_then found_by
     read_on y q h = rw (← same, ← place, ← e.finds, q) (h (ap (λ (b : Bor (List ℕ)). b.now) e.bytes ∙ same))
 
-    read_cut : (end : UnexpectedEnd) → r ≡ Err end → x ≡ stop → x ≡ and_then (found s at) stop f
+    read_cut : (end : E) → r ≡ Err end → x ≡ stop → x ≡ and_then (found s at) stop f
     unfolding and_then found_by
     read_cut end q h = rw (← same, ← place, ← e.finds, q) h
 
@@ -58,21 +57,21 @@ module _ {A T : Type 0} (x stop : A) (s : List ℕ) (at : ℕ) (old new : Reader
     pub var_on : (y : T) → r ≡ Ok y → (new.bytes.now ≡ s → x ≡ f (v y) new.at) → x ≡ and_then (var_at s at) stop f
     var_on = read_on f v var_at e
 
-    pub var_cut : (end : UnexpectedEnd) → r ≡ Err end → x ≡ stop → x ≡ and_then (var_at s at) stop f
+    pub var_cut : (end : E) → r ≡ Err end → x ≡ stop → x ≡ and_then (var_at s at) stop f
     var_cut = read_cut f v var_at e
 
   module _ (f : ℕ → ℕ → A) (v : T → ℕ) (n : ℕ) (e : Reads v (fixed_at n old.bytes.now old.at) old r new) where
     pub num_on : (y : T) → r ≡ Ok y → (new.bytes.now ≡ s → x ≡ f (v y) new.at) → x ≡ and_then (fixed_at n s at) stop f
     num_on = read_on f v (fixed_at n) e
 
-    pub num_cut : (end : UnexpectedEnd) → r ≡ Err end → x ≡ stop → x ≡ and_then (fixed_at n s at) stop f
+    pub num_cut : (end : E) → r ≡ Err end → x ≡ stop → x ≡ and_then (fixed_at n s at) stop f
     num_cut = read_cut f v (fixed_at n) e
 
   module _ (f : Place → ℕ → A) (v : T → Place) (n : ℕ) (e : Reads v (take_at n old.bytes.now old.at) old r new) where
     pub place_on : (y : T) → r ≡ Ok y → (new.bytes.now ≡ s → x ≡ f (v y) new.at) → x ≡ and_then (take_at n s at) stop f
     place_on = read_on f v (take_at n) e
 
-    pub place_cut : (end : UnexpectedEnd) → r ≡ Err end → x ≡ stop → x ≡ and_then (take_at n s at) stop f
+    pub place_cut : (end : E) → r ≡ Err end → x ≡ stop → x ≡ and_then (take_at n s at) stop f
     place_cut = read_cut f v (take_at n) e
 
 -- a run of reads and tests

@@ -1,15 +1,17 @@
 -- Each map from the code's values to the documents' numbers has an inverse: what is said settles the value.
-use mathlib.Core.Path.{◌≡◌, refl, ap}
+use mathlib.Core.Path.{◌≡◌, refl, sym, ap, ◌∙◌}
+use native.Mathlib.Omega.{arith}
 use mathlib.Core.Bool.{cond}
 use Prim.Native.Nat.{ℕ}
 use lib.Dec.{eqb}
 use Rattle.std.proofs.Common.{Option, Some, None, Result, Ok, Err}
-use Rattle.coding.specs.Words.{Got, Answer}
+use Rattle.coding.specs.Words.{Answer}
+use Rattle.coding.specs.declared.reader.Reader.{Reader}
 use Rattle.coding.specs.declared.refusal.Refusal.{Refusal}
 use Rattle.coding.proofs.Numbers.{refusal_of, refusal_back}
-use Rattle.coding.proofs.Inverse.{one_by, found, answered}
+use Rattle.coding.proofs.Inverse.{one_by, answered}
 use Rattle.shared.specs.Cid.{no_cid}
-use Rattle.shared.specs.Said.{found_of, cid_made_of, cid_read_of, ecn_read_of, side_bit, dir_bit, stream_of}
+use Rattle.shared.specs.Said.{cid_made_of, cid_read_of, ReadsCid, ecn_read_of, side_bit, dir_bit, stream_of}
 use Rattle.shared.specs.declared.cid.ConnectionId.{ConnectionId}
 use Rattle.shared.specs.declared.codepoint.EcnCodepoint.{EcnCodepoint}
 use Rattle.shared.specs.declared.codepoint.EcnCodepoint.TheVariants as ecn
@@ -18,14 +20,6 @@ use Rattle.shared.specs.declared.kinds.Side.TheVariants as side
 use Rattle.shared.specs.declared.kinds.Dir.{Dir}
 use Rattle.shared.specs.declared.kinds.Dir.TheVariants as dir
 use Rattle.shared.specs.declared.kinds.StreamId.{StreamId}
-
-pub found_one : {A : Type 0} (x y : Option (A × ℕ)) (g : Got A) → found_of x ≡ g → found_of y ≡ g → x ≡ y
-unfolding found_of
-found_one = one_by found_of (found None (λ a n. Some (a, n))) back
-  where
-    back : {A : Type 0} (r : Option (A × ℕ)) → found None (λ a n. Some (a, n)) (found_of r) ≡ r
-    back (Some (a, n)) = refl
-    back None = refl
 
 -- a CID beside a number or a place: the refusal leaves the empty one out
 abbrev made_by : Answer ℕ × ConnectionId → Result ConnectionId Refusal
@@ -39,16 +33,33 @@ cid_made_one = one_by cid_made_of made_by back
     back (Ok c) = refl
     back (Err why) = ap Err (refusal_back why)
 
-abbrev read_by : Answer ℕ × ConnectionId → Result (ConnectionId × ℕ) Refusal
-read_by g = answered (λ k. Err (refusal_of k)) (λ n. Ok (g.1, n)) g.0
-
-pub cid_read_one : (x y : Result (ConnectionId × ℕ) Refusal) (g : Answer ℕ × ConnectionId) → cid_read_of x ≡ g → cid_read_of y ≡ g → x ≡ y
+-- two reads of one reader that say the same answer the same, and stand at one place
+pub reads_cid_one : (g : Answer ℕ × ConnectionId) (old x' y' : Reader) (x y : Result ConnectionId Refusal)
+    → ReadsCid g old x x' → ReadsCid g old y y' → ◌≡◌ {A = Result ConnectionId Refusal × Reader} (x, x') (y, y')
 unfolding cid_read_of no_cid
-cid_read_one = one_by cid_read_of read_by back
+reads_cid_one g old x' y' x y p q = same x y p q
   where
-    back : (r : Result (ConnectionId × ℕ) Refusal) → read_by (cid_read_of r) ≡ r
-    back (Ok (c, n)) = refl
-    back (Err why) = ap Err (refusal_back why)
+    is_ok : Answer ℕ × ConnectionId → ℕ
+    is_ok h = answered (λ k. 0) (λ n. 1) h.0
+
+    place : Answer ℕ × ConnectionId → ℕ
+    place h = answered (λ k. 0) (λ n. n) h.0
+
+    why_of : Answer ℕ × ConnectionId → Refusal
+    why_of h = answered refusal_of refusal_of h.0
+
+    same : (x y : Result ConnectionId Refusal) → ReadsCid g old x x' → ReadsCid g old y y' → ◌≡◌ {A = Result ConnectionId Refusal × Reader} (x, x') (y, y')
+    same (Ok c) (Ok d) p q =
+        let e = p.says ∙ sym q.says in
+        let b = p.bytes ∙ sym q.bytes in
+        λ i. (Ok (ap (λ h. h.1) e i), record { bytes = b i; at = ap place e i })
+    same (Ok c) (Err k) p q = let z : ◌≡◌ {A = ℕ} 1 0 = ap is_ok (p.says ∙ sym q.says) in absurd (omega arith)
+    same (Err k) (Ok d) p q = let z : ◌≡◌ {A = ℕ} 0 1 = ap is_ok (p.says ∙ sym q.says) in absurd (omega arith)
+    same (Err k) (Err j) p q =
+        let e = sym (refusal_back k) ∙ ap why_of (p.says ∙ sym q.says) ∙ refusal_back j in
+        let n = p.stays ∙ sym q.stays in
+        let b = p.bytes ∙ sym q.bytes in
+        λ i. (Err (e i), record { bytes = b i; at = n i })
 
 pub ecn_one : (x y : Option EcnCodepoint) (n : ℕ) → ecn_read_of x ≡ n → ecn_read_of y ≡ n → x ≡ y
 ecn_one = one_by ecn_read_of read_by back

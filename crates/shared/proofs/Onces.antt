@@ -4,9 +4,14 @@ use mathlib.Core.List.{List}
 use Prim.Native.Nat.{ℕ}
 use Rattle.coding.specs.Once.{Once}
 use Rattle.std.proofs.Common.{Result}
+use Rattle.coding.specs.declared.Place.{Place}
+use Rattle.coding.specs.declared.reader.Reader.{Reader}
 use Rattle.coding.specs.declared.refusal.Refusal.{Refusal}
+use Rattle.coding.specs.declared.refusal.UnexpectedEnd.{UnexpectedEnd}
+use Rattle.coding.proofs.Inverse.{reads_one}
+use Rattle.shared.specs.declared.cid.ConnectionId.{ConnectionId}
 use Rattle.coding.proofs.Onces.{one_put, one_written}
-use Rattle.shared.proofs.Inverse.{found_one, cid_made_one, cid_read_one, ecn_one, side_one, dir_one, stream_one}
+use Rattle.shared.proofs.Inverse.{cid_made_one, reads_cid_one, ecn_one, side_one, dir_one, stream_one}
 use Rattle.shared.specs.contracts.cid.long_place as long_place
 use Rattle.shared.proofs.cid.long_place.Reads as long_place_reads
 use Rattle.shared.specs.contracts.cid.ConnectionId.empty as empty
@@ -50,9 +55,9 @@ use Rattle.shared.proofs.kinds.StreamId.index.Reads as index_reads
 
 -- ---- connection ids
 
-long_place_once : Once long_place.ended long_place_reads.Post (λ κs x s. x)
+long_place_once : Once {B = Result Place UnexpectedEnd × Reader} long_place.ended long_place_reads.Post (λ κs x s. (x, s.0.now))
 unfolding Once
-long_place_once κs a x y s t p q = found_one x y _ p q
+long_place_once κs a x y s t p q = reads_one (λ p. p) (λ v w e. e) _ _ _ _ x y p q
 
 empty_once : Once empty.ended empty_reads.Post (λ κs x s. x)
 unfolding Once
@@ -66,13 +71,13 @@ cid_new_once : Once cid_new.ended cid_new_reads.Post (λ κs x s. x)
 unfolding Once
 cid_new_once κs a x y s t p q = cid_made_one x y _ p q
 
-from_buf_once : Once from_buf.ended from_buf_reads.Post (λ κs x s. x)
+from_buf_once : Once {B = Result ConnectionId Refusal × Reader} from_buf.ended from_buf_reads.Post (λ κs x s. (x, s.0.now))
 unfolding Once
-from_buf_once κs a x y s t p q = cid_read_one x y _ p q
+from_buf_once κs a x y s t p q = reads_cid_one _ _ _ _ x y p q
 
-decode_long_once : Once decode_long.ended decode_long_reads.Post (λ κs x s. x)
+decode_long_once : Once {B = Result ConnectionId Refusal × Reader} decode_long.ended decode_long_reads.Post (λ κs x s. (x, s.0.now))
 unfolding Once
-decode_long_once κs a x y s t p q = cid_read_one x y _ p q
+decode_long_once κs a x y s t p q = reads_cid_one _ _ _ _ x y p q
 
 put_bytes_once : Once {B = ℕ × List ℕ} put_bytes.ended put_bytes_reads.Post (λ κs x s. (x, s.1.0.now))
 unfolding Once

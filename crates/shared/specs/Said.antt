@@ -1,7 +1,8 @@
 -- What each of the code's values says, in the documents' numbers.
-use Rattle.std.specs.Prelude.{ℕ, Option, Some, None, Result, Ok, Err}
-use Rattle.coding.specs.Words.{Got, cut, got, Answer, no, ok}
+use Rattle.std.specs.Prelude.{ℕ, ◌≡◌, Option, Some, None, Result, Ok, Err, IfErr}
+use Rattle.coding.specs.Words.{Answer, no, ok}
 use Rattle.coding.specs.Refusals.{number_of}
+use Rattle.coding.specs.declared.reader.Reader.{Reader}
 use Rattle.coding.specs.declared.refusal.Refusal.{Refusal}
 use Rattle.shared.specs.Cid.{no_cid}
 use Rattle.shared.specs.declared.cid.ConnectionId.{ConnectionId}
@@ -13,19 +14,21 @@ use Rattle.shared.specs.declared.kinds.Dir.{Dir}
 use Rattle.shared.specs.declared.kinds.Dir.TheVariants as dir
 use Rattle.shared.specs.declared.kinds.StreamId.{StreamId}
 
--- what is found and the place past it, or nothing
-unfoldable pub found_of : {A : Type 0} → Option (A × ℕ) → Got A
-found_of (Some (a, next)) = got a next
-found_of None = cut
-
--- a CID's length, or the place past it; a refusal says the empty CID beside its number
+-- a CID's length; a refusal says the empty CID beside its number
 unfoldable pub cid_made_of : Result ConnectionId Refusal → Answer ℕ × ConnectionId
 cid_made_of (Ok c) = (ok c.len, c)
 cid_made_of (Err why) = no_cid (number_of why)
 
-unfoldable pub cid_read_of : Result (ConnectionId × ℕ) Refusal → Answer ℕ × ConnectionId
-cid_read_of (Ok (c, next)) = (ok next, c)
-cid_read_of (Err why) = no_cid (number_of why)
+-- the place past a CID that is read; likewise
+unfoldable pub cid_read_of : Result ConnectionId Refusal → ℕ → Answer ℕ × ConnectionId
+cid_read_of (Ok c) next = (ok next, c)
+cid_read_of (Err why) next = no_cid (number_of why)
+
+-- a read of a CID says `said`, and the reader stands past it; refused, it stays where it stood
+pub record ReadsCid (said : Answer ℕ × ConnectionId) (old : Reader) (r : Result ConnectionId Refusal) (new : Reader) : Type 0 where
+  pub says : cid_read_of r new.at ≡ said
+  pub bytes : new.bytes ≡ old.bytes
+  pub stays : IfErr r (λ why. new.at ≡ old.at)
 
 abbrev pub ecn_of : EcnCodepoint → ℕ
 ecn_of ecn.Ect0 = 0b10

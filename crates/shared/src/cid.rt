@@ -1,13 +1,13 @@
 // Connection ids (shared.rs; RFC 9000, 5.1 and 17.2).
-#![tactic(auto, unfolding(coding::specs::Words::and_then, coding::specs::Said::number_read, coding::specs::Said::read_of, crate::specs::Cid::cid_of, crate::specs::Cid::cid_on, crate::specs::Cid::long_cid_at, crate::specs::Cid::cid_new, crate::specs::Cid::cid_from, crate::specs::Cid::cid_long, crate::specs::Said::found_of, crate::specs::Said::cid_made_of, crate::specs::Said::cid_read_of))]
+#![tactic(auto, unfolding(coding::specs::Words::and_then, coding::specs::Said::found_by, crate::specs::Cid::cid_of, crate::specs::Cid::cid_on, crate::specs::Cid::long_cid_at, crate::specs::Cid::cid_new, crate::specs::Cid::cid_from, crate::specs::Cid::cid_long, crate::specs::Said::cid_made_of, crate::specs::Said::cid_read_of))]
 
 ghost use Rattle.std.specs.Prelude.{◌≡◌, ◌≤◌, [], length};
-ghost use Rattle.coding.specs.Said.{answer_of};
+ghost use Rattle.coding.specs.Said.{Reads, answer_of};
 ghost use Rattle.coding.specs.Writing.{Written, Put};
 ghost use Rattle.shared.specs.Cid.{max_cid, cid_of, cid_on, long_cid_at, cid_new, cid_from, cid_long, cid_put, long_put, long_out};
-ghost use Rattle.shared.specs.Said.{found_of, cid_made_of, cid_read_of};
+ghost use Rattle.shared.specs.Said.{cid_made_of, ReadsCid};
 
-use coding::{Place, Refusal};
+use coding::{Place, Reader, Refusal, UnexpectedEnd};
 
 // The largest length of a connection id, in bytes.
 pub const MAX_CID_SIZE: usize = 20;
@@ -24,14 +24,17 @@ pub struct ConnectionId {
 }
 
 // The place of a CID in long header form: a length byte of at most 20, and as many bytes.
-pub fn long_place(s: &[u8], at: usize) -> Option<(Place, usize)>
-    ensures { found_of result ≡ long_cid_at s.now at }
+pub fn long_place(r: &mut Reader) -> Result<Place, UnexpectedEnd>
+    ensures { Reads (λ p. p) (long_cid_at r.old.bytes.now r.old.at) r.old result r.new }
 {
-    let (len, next) = coding::get::<u8>(s, at).ok()?;
+    let mut past = *r;
+    let len = past.get::<u8>()?;
     if LONGEST_CID < len {
-        return None;
+        return Err(UnexpectedEnd);
     }
-    coding::take(s, next, u64::from(len)).ok()
+    let p = past.take(u64::from(len))?;
+    *r = past;
+    Ok(p)
 }
 
 impl ConnectionId {
@@ -68,25 +71,25 @@ impl ConnectionId {
         })
     }
 
-    // Constructs cid by reading `len` bytes at a cursor; answers the place past it too.
-    pub fn from_buf(s: &[u8], at: usize, len: usize) -> Result<(ConnectionId, usize), Refusal>
-        ensures { cid_read_of result ≡ cid_from len s.now at }
+    // Constructs cid by reading `len` bytes.
+    pub fn from_buf(r: &mut Reader, len: usize) -> Result<ConnectionId, Refusal>
+        ensures { ReadsCid (cid_from len r.old.bytes.now r.old.at) r.old result r.new }
     {
         if MAX_CID_SIZE < len {
             return Err(Refusal::Argument);
         }
-        let (p, next) = coding::take(s, at, len as u64)?;
-        Ok((ConnectionId::at(s, p), next))
+        let p = r.take(len as u64)?;
+        Ok(ConnectionId::at(r.bytes, p))
     }
 
-    // Decode from long header format; answers the place past it too.
-    pub fn decode_long(s: &[u8], at: usize) -> Result<(ConnectionId, usize), Refusal>
-        ensures { cid_read_of result ≡ cid_long s.now at }
+    // Decode from long header format.
+    pub fn decode_long(r: &mut Reader) -> Result<ConnectionId, Refusal>
+        ensures { ReadsCid (cid_long r.old.bytes.now r.old.at) r.old result r.new }
     {
-        let Some((p, next)) = long_place(s, at) else {
+        let Ok(p) = long_place(r) else {
             return Err(Refusal::Cid);
         };
-        Ok((ConnectionId::at(s, p), next))
+        Ok(ConnectionId::at(r.bytes, p))
     }
 
     // Puts the bytes alone; a length above 20 puts nothing.
