@@ -65,10 +65,10 @@ unfoldable pub outcome_of : Result Decoded PacketDecodeError → Outcome
 outcome_of (Ok d) = decoded_of d
 outcome_of (Err e) = error_of e
 
--- the same of what stands past the connection ids, with these beside it
-unfoldable pub tail_of : (Header → ℕ → Outcome) → Result (ProtectedHeader × ℕ) PacketDecodeError → Outcome
-tail_of made (Ok (h, end)) = made (header_of h) end
-tail_of made (Err e) = error_of e
+-- the same of what stands past the connection ids up to `end`, with these beside it
+unfoldable pub tail_of : (Header → ℕ → Outcome) → Result ProtectedHeader PacketDecodeError → ℕ → Outcome
+tail_of made (Ok h) end = made (header_of h) end
+tail_of made (Err e) end = error_of e
 
 unfoldable pub partial_of : PartialDecode → Split
 partial_of d = record { header = decoded_of d.plain_header; packet = d.packet; rest = option_of d.rest }

@@ -6,7 +6,7 @@ ghost use Rattle.packet.specs.Split.{rest_at, cut_at, split_at, token_in, rest_i
 ghost use Rattle.packet.specs.Said.{header_of, decoded_of, option_of, partial_of, split_of};
 
 use crate::{Decoded, PacketDecodeError, ProtectedHeader};
-use coding::{Place, Refusal};
+use coding::{Place, Reader, Refusal};
 
 // A packet with its header, both as far as they can be read without keys, and what follows it, if that has a byte.
 #[derive(Clone, Copy, PartialEq, Eq)]
@@ -56,10 +56,14 @@ pub fn split(
     let Some(len) = plain.payload_len() else {
         return Ok(cut_at(plain, s, s.len()));
     };
-    let Ok((_, end)) = coding::take(s, plain.number_offset, len) else {
+    let mut r = Reader {
+        bytes: s,
+        at: plain.number_offset,
+    };
+    let Ok(_) = r.take(len) else {
         return Err(PacketDecodeError::Refused(Refusal::Length));
     };
-    Ok(cut_at(plain, s, end))
+    Ok(cut_at(plain, s, r.at))
 }
 
 // The token's place, or an empty one.

@@ -6,7 +6,7 @@ ghost use Rattle.packet.specs.Header.{Header, Outcome, outside, unfixed, initial
 ghost use Rattle.packet.specs.Said.{long_type_of, tail_of, outcome_of};
 
 use crate::{Decoded, LongHeaderType, PacketDecodeError, ProtectedHeader};
-use coding::{MAX_DATAGRAM, Refusal};
+use coding::{MAX_DATAGRAM, Reader, Refusal};
 use shared::{ConnectionId, FIXED_BIT, LONG_HEADER_FORM, MAX_CID_SIZE, SPIN_BIT};
 
 // The most versions that a reader may list.
@@ -30,31 +30,29 @@ fn is_unfixed(first: u8, grease: bool) -> bool
 
 // What stands past a long header's connection ids is its header and the place past it. Here: an Initial's token behind its
 // length, and its Length.
-fn initial_tail(s: &[u8], at: usize) -> Result<(ProtectedHeader, usize), PacketDecodeError>
-    ensures { (made : Header → ℕ → Outcome) → tail_of made result ≡ initial_at made s.now at }
+#[tactic(auto, unfolding(coding::specs::Words::and_then, coding::specs::Said::found_by, crate::specs::Header::initial_at, crate::specs::Said::tail_of))]
+fn initial_tail(r: &mut Reader) -> Result<ProtectedHeader, PacketDecodeError>
+    ensures { (made : Header → ℕ → Outcome) → tail_of made result r.new.at ≡ initial_at made r.old.bytes.now r.old.at }
 {
-    let (token_len, start) = coding::get_var(s, at)?;
-    let Ok((token, next)) = coding::take(s, start, token_len.0) else {
+    let token_len = r.get_var()?;
+    let Ok(token) = r.take(token_len.0) else {
         return Err(PacketDecodeError::Refused(Refusal::Token));
     };
-    let (len, end) = coding::get_var(s, next)?;
-    Ok((ProtectedHeader::Initial { token, len: len.0 }, end))
+    let len = r.get_var()?;
+    Ok(ProtectedHeader::Initial { token, len: len.0 })
 }
 
 // By the type.
-fn long_tail(
-    s: &[u8],
-    ty: LongHeaderType,
-    at: usize,
-) -> Result<(ProtectedHeader, usize), PacketDecodeError>
-    ensures { (made : Header → ℕ → Outcome) → tail_of made result ≡ tail_at (long_type_of ty) made s.now at }
+#[tactic(auto, unfolding(coding::specs::Words::and_then, coding::specs::Said::found_by, crate::specs::Header::length_at, crate::specs::Header::tail_at, crate::specs::Said::tail_of))]
+fn long_tail(r: &mut Reader, ty: LongHeaderType) -> Result<ProtectedHeader, PacketDecodeError>
+    ensures { (made : Header → ℕ → Outcome) → tail_of made result r.new.at ≡ tail_at (long_type_of ty) made r.old.bytes.now r.old.at }
 {
     match ty {
-        LongHeaderType::Initial => initial_tail(s, at),
-        LongHeaderType::Retry => Ok((ProtectedHeader::Retry, at)),
+        LongHeaderType::Initial => initial_tail(r),
+        LongHeaderType::Retry => Ok(ProtectedHeader::Retry),
         LongHeaderType::Standard(ty) => {
-            let (len, end) = coding::get_var(s, at)?;
-            Ok((ProtectedHeader::Long { ty, len: len.0 }, end))
+            let len = r.get_var()?;
+            Ok(ProtectedHeader::Long { ty, len: len.0 })
         }
     }
 }
@@ -63,18 +61,19 @@ fn long_tail(
 fn long_header(s: &[u8], first: u8, versions: &[u32]) -> Result<Decoded, PacketDecodeError>
     ensures { outcome_of result ≡ long_at type_of (first / 16) (first % 16) s.now versions.now }
 {
-    let (version, next) = coding::get::<u32>(s, 1)?;
-    let Some((to, second)) = shared::long_place(s, next) else {
+    let mut r = Reader { bytes: s, at: 1 };
+    let version = r.get::<u32>()?;
+    let Ok(to) = shared::long_place(&mut r) else {
         return Err(PacketDecodeError::Refused(Refusal::Cid)); // for a cut length byte too
     };
-    let Some((from, at)) = shared::long_place(s, second) else {
+    let Ok(from) = shared::long_place(&mut r) else {
         return Err(PacketDecodeError::Refused(Refusal::Cid));
     };
-    let (header, number_offset) = if version == 0 {
+    let header = if version == 0 {
         let random = first % LONG_HEADER_FORM;
-        (ProtectedHeader::VersionNegotiate { random }, at)
+        ProtectedHeader::VersionNegotiate { random }
     } else if versions.contains(&version) {
-        long_tail(s, LongHeaderType::from_byte(first, version), at)?
+        long_tail(&mut r, LongHeaderType::from_byte(first, version))?
     } else {
         return Err(PacketDecodeError::UnsupportedVersion {
             dst_cid: ConnectionId::at(s, to),
@@ -87,14 +86,16 @@ fn long_header(s: &[u8], first: u8, versions: &[u32]) -> Result<Decoded, PacketD
         dst_cid: ConnectionId::at(s, to),
         src_cid: ConnectionId::at(s, from),
         version,
-        number_offset,
+        number_offset: r.at,
     })
 }
 
+#[tactic(auto, unfolding(coding::specs::Words::and_then, coding::specs::Said::found_by, crate::specs::Header::short_at, crate::specs::Header::headed, crate::specs::Said::decoded_of, crate::specs::Said::outcome_of))]
 fn short_header(s: &[u8], first: u8, local: usize) -> Result<Decoded, PacketDecodeError>
     ensures { outcome_of result ≡ short_at (first / spin_bit) s.now local }
 {
-    let Ok((to, number_offset)) = coding::take(s, 1, local as u64) else {
+    let mut r = Reader { bytes: s, at: 1 };
+    let Ok(to) = r.take(local as u64) else {
         return Err(PacketDecodeError::Refused(Refusal::ShortCid));
     };
     Ok(Decoded {
@@ -104,7 +105,7 @@ fn short_header(s: &[u8], first: u8, local: usize) -> Result<Decoded, PacketDeco
         dst_cid: ConnectionId::at(s, to),
         src_cid: ConnectionId::empty(),
         version: 0,
-        number_offset,
+        number_offset: r.at,
     })
 }
 
@@ -120,7 +121,7 @@ pub fn decode(
     if is_outside(s, local, versions) {
         return Err(PacketDecodeError::Refused(Refusal::Argument));
     }
-    let (first, _) = coding::get::<u8>(s, 0)?;
+    let first = Reader { bytes: s, at: 0 }.get::<u8>()?;
     if is_unfixed(first, grease) {
         return Err(PacketDecodeError::Refused(Refusal::FixedBit));
     }

@@ -1,6 +1,6 @@
 use Rattle.std.proofs.lemmas.Result.{err_from_is_err_and}
 use Rattle.coding.specs.Words.{and_then}
-use Rattle.coding.specs.Said.{read_of}
+use Rattle.coding.specs.Said.{found_by}
 use Rattle.packet.specs.Split.{split_by, split_on, split_with}
 use Rattle.packet.specs.Said.{decoded_of, outcome_of, split_of}
 use Rattle.packet.proofs.Cases.{error_says}
@@ -17,9 +17,9 @@ unfolding split_with split_on split_by outcome_of decoded_of split_of
 returns-in_default c = rw (← c.in_ok-plain.ensures, ← c.in_default.ensures) c.cut_at.ensures
 
 pub returns-in_default-take : goal.returns-in_default-take
-unfolding split_with split_on split_by and_then read_of outcome_of decoded_of split_of
-returns-in_default-take c = rw (← c.in_ok-plain.ensures, ← c.in-Some.ensures, ← c.in_default-take.ensures)
+unfolding split_with split_on split_by and_then found_by outcome_of decoded_of split_of
+returns-in_default-take c = rw (← c.in_ok-plain.ensures, ← c.in-Some.ensures, ← c.in_default-take.ensures.finds)
 
 pub returns : goal.returns
-unfolding split_with split_on split_by and_then read_of outcome_of decoded_of split_of
-returns c = rw (← c.in_ok-plain.ensures, ← c.in-Some.ensures, ← c.in-Ok.ensures) c.cut_at-2.ensures
+unfolding split_with split_on split_by and_then found_by outcome_of decoded_of split_of
+returns c = rw (← c.in_ok-plain.ensures, ← c.in-Some.ensures, ← c.in-Ok.ensures.finds) c.cut_at-2.ensures
