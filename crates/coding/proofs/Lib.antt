@@ -11,3 +11,4 @@ pub mod Back
 pub mod Numbers
 pub mod Inverse
 pub mod Onces
+pub mod OncesFree
