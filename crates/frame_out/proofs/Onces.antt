@@ -6,11 +6,12 @@ use mir.Syntax.{Dict}
 use denote.Param.Laws.{Laws}
 use denote.RattleType.{RattleType}
 use Rattle.frame_out.specs.declared.codec.Integer
-use Rattle.coding.specs.Varint.{var_at}
 use Rattle.coding.specs.Once.{Once}
 use Rattle.std.specs.Prelude.{Result}
+use Rattle.coding.specs.declared.reader.Reader.{Reader}
 use Rattle.coding.specs.declared.refusal.Refusal.{Refusal}
-use Rattle.coding.proofs.Inverse.{number_one, answer_one}
+use Rattle.coding.specs.declared.refusal.UnexpectedEnd.{UnexpectedEnd}
+use Rattle.coding.proofs.Inverse.{reads_one, answer_one}
 use Rattle.coding.proofs.Onces.{one_written}
 use Rattle.frame_out.specs.contracts.codec.encode as encode
 use Rattle.frame_out.proofs.codec.encode.Reads as encode_reads
@@ -55,9 +56,9 @@ module _ (T : RattleType) (laws : Laws T) (g : Integer.Ghosts T.Denot) (d : Dict
   unfolding Once
   encode_once κs a x y s t p q = one_written _ _ x y _ _ p q
 
-  decode_once : Once (decode.ended T g d) (decode_reads.Post T laws g d) (λ κs x s. x)
+  decode_once : Once {B = Result T.Denot UnexpectedEnd × Reader} (decode.ended T g d) (decode_reads.Post T laws g d) (λ κs x s. (x, s.0.now))
   unfolding Once
-  decode_once κs a x y s t p q = number_one g.number one x y (var_at a.0.now a.1.0) p q
+  decode_once κs a x y s t p q = reads_one g.number one _ _ _ _ x y p q
 
 is_transport_layer_once : Once is_transport_layer.ended is_transport_layer_reads.Post (λ κs x s. x)
 unfolding Once

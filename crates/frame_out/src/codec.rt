@@ -2,10 +2,10 @@
 // transport_error.rs, Code).
 ghost use Rattle.std.specs.Prelude.{◌≡◌, ℕ};
 ghost use Rattle.coding.specs.Varint.{var_at, var_out};
-ghost use Rattle.coding.specs.Said.{answer_of, number_read};
+ghost use Rattle.coding.specs.Said.{answer_of, Reads};
 ghost use Rattle.coding.specs.Writing.{Written};
 
-use coding::{Refusal, UnexpectedEnd, VarInt};
+use coding::{Reader, Refusal, UnexpectedEnd, VarInt};
 use shared::{FrameType, StreamId};
 
 // A value that is written as its number.
@@ -72,10 +72,10 @@ pub fn encode<T: Integer>(x: T, out: &mut [u8]) -> Result<usize, Refusal>
     VarInt(x.number()).encode(out)
 }
 
-// The value at a cursor, and the place past it.
-pub fn decode<T: Integer>(s: &[u8], at: usize) -> Result<(T, usize), UnexpectedEnd>
-    ensures { number_read T.number result ≡ var_at s.now at }
+// The value that is read next.
+pub fn decode<T: Integer>(r: &mut Reader) -> Result<T, UnexpectedEnd>
+    ensures { Reads T.number (var_at r.old.bytes.now r.old.at) r.old result r.new }
 {
-    let (x, next) = coding::get_var(s, at)?;
-    Ok((T::of(x.0), next))
+    let x = r.get_var()?;
+    Ok(T::of(x.0))
 }

@@ -1,20 +1,23 @@
 // The operations of `shared`: connection ids, ECN, stream ids, frame types.
 use cases::line::{Answer, Out, written};
 use cases::record::Numbers;
-use coding::Refusal;
+use coding::{Reader, Refusal};
 use shared::{ConnectionId, Dir, EcnCodepoint, FrameType, Side, StreamId};
 
 // cidnew, cidbuf and ciddec: a CID and, but for cidnew, the place past it.
 fn cid_read(op: u8, ns: Numbers, b: &[u8]) -> Result<(ConnectionId, Option<usize>), Refusal> {
-    let at = ns.n0 as usize;
     if op == 11 {
         return Ok((ConnectionId::new(b)?, None));
     }
-    let (id, next) = match op {
-        12 => ConnectionId::from_buf(b, at, ns.n1 as usize)?,
-        _ => ConnectionId::decode_long(b, at)?,
+    let mut r = Reader {
+        bytes: b,
+        at: ns.n0 as usize,
     };
-    Ok((id, Some(next)))
+    let id = match op {
+        12 => ConnectionId::from_buf(&mut r, ns.n1 as usize)?,
+        _ => ConnectionId::decode_long(&mut r)?,
+    };
+    Ok((id, Some(r.at)))
 }
 
 // A CID's length, all its 20 bytes and the place past it; or the refusal.

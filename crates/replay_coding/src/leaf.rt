@@ -3,11 +3,15 @@ use crate::kinds;
 use cases::line::{Answer, Out, written};
 use cases::record;
 use cases::record::Numbers;
-use coding::{Codec, Place, Refusal, VarInt, part, put_slice};
+use coding::{Codec, Place, Reader, Refusal, VarInt, part, put_slice};
 
 pub(crate) fn vread(ns: Numbers, b: &[u8]) -> Result<Answer, Refusal> {
-    let (v, next) = coding::get_var(b, ns.n0 as usize)?;
-    Ok(Answer::Two(v.into_inner(), next as u64))
+    let mut r = Reader {
+        bytes: b,
+        at: ns.n0 as usize,
+    };
+    let v = r.get_var()?;
+    Ok(Answer::Two(v.into_inner(), r.at as u64))
 }
 
 pub(crate) fn vfrom(x: u64) -> Result<Answer, Refusal> {
@@ -20,9 +24,10 @@ pub(crate) fn vsize(x: u64) -> Result<Answer, Refusal> {
 }
 
 // A number of any width as one of 8 bytes.
-fn got<T: Codec + Into<u64>>(b: &[u8], at: usize) -> Result<Answer, Refusal> {
-    let (x, next) = coding::get::<T>(b, at)?;
-    Ok(Answer::Two(x.into(), next as u64))
+fn got<T: Codec + Into<u64>>(bytes: &[u8], at: usize) -> Result<Answer, Refusal> {
+    let mut r = Reader { bytes, at };
+    let x = r.get::<T>()?;
+    Ok(Answer::Two(x.into(), r.at as u64))
 }
 
 pub(crate) fn get(ns: Numbers, b: &[u8]) -> Result<Answer, Refusal> {
@@ -37,8 +42,12 @@ pub(crate) fn get(ns: Numbers, b: &[u8]) -> Result<Answer, Refusal> {
 }
 
 pub(crate) fn take(ns: Numbers, b: &[u8]) -> Result<Answer, Refusal> {
-    let (Place { start, len }, next) = coding::take(b, ns.n0 as usize, ns.n1)?;
-    Ok(Answer::Three(start as u64, len as u64, next as u64))
+    let mut r = Reader {
+        bytes: b,
+        at: ns.n0 as usize,
+    };
+    let Place { start, len } = r.take(ns.n1)?;
+    Ok(Answer::Three(start as u64, len as u64, r.at as u64))
 }
 
 pub(crate) fn part_at(ns: Numbers, b: &[u8]) -> &[u8] {

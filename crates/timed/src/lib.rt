@@ -16,7 +16,7 @@ ghost use Rattle.ack_out.specs.Acks.{ack_out};
 ghost use Rattle.dump_text.specs.Dump.{dump_text};
 ghost use Rattle.timed.specs.Timed.{gathered, vars_of, cut_said, cuts_of, fulls_of, Tells, write_record, flagged, Writes};
 
-use coding::Refusal;
+use coding::{Reader, Refusal};
 use frame::ResetStream;
 use frame_out::StreamMeta;
 use shared::{ConnectionId, CutNumber, FrameType, FullNumber, StreamId};
@@ -43,11 +43,11 @@ pub struct WriteAnswer {
 pub extern "C" fn guobbarel_timed_read_vars(bytes: &[u8]) -> GatheredAnswer
     ensures { result ≡ gathered (vars_of bytes.now) }
 {
-    let mut at = 0;
+    let mut r = Reader { bytes, at: 0 };
     let mut count = 0;
     let mut mixed = 0;
-    while at < bytes.len() {
-        let Ok((v, next)) = coding::get_var(bytes, at) else {
+    while r.at < bytes.len() {
+        let Ok(v) = r.get_var() else {
             return GatheredAnswer {
                 refusal: 10,
                 count,
@@ -56,7 +56,6 @@ pub extern "C" fn guobbarel_timed_read_vars(bytes: &[u8]) -> GatheredAnswer
         };
         mixed ^= v.0;
         count += 1;
-        at = next;
     }
     GatheredAnswer {
         refusal: 0,
