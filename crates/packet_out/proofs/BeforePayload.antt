@@ -11,7 +11,7 @@ use lib.Dec.{leb}
 use borrow.Author.Tests.{le-leb, lt-leb}
 use Rattle.coding.specs.Words.{no}
 use Rattle.coding.specs.Bytes.{bytes_be}
-use Rattle.shared.specs.Cid.{cid_of, cid_bytes, long_bytes}
+use Rattle.shared.specs.Cid.{max_cid, cid_of, cid_bytes, long_bytes}
 use Rattle.shared.specs.declared.cid.ConnectionId.{ConnectionId}
 use Rattle.shared.specs.declared.kinds.CutNumber.{CutNumber}
 use Rattle.shared.proofs.Laws.{length_cid}
@@ -34,6 +34,10 @@ and_false true = refl
 and_false false = refl
 
 module _ (p : Plain) (dst src : ConnectionId) (token : List ℕ) (n : ℕ) where
+  pub with_wide : (leb dst.len max_cid && leb src.len max_cid) ≡ false → header_with p dst src token n ≡ no 14
+  unfolding header_with fits roomy keep_rules
+  with_wide h = rw h
+
   pub with_not : length_fits (shape_by bits_of p).has_length (number_size p + n) ≡ false → header_with p dst src token n ≡ no 14
   unfolding header_with fits
   with_not h = rw (h, and_false (roomy p dst src token n))

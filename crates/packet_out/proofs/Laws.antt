@@ -6,23 +6,21 @@ use mathlib.Core.List.{List, ◌∷◌, ◌++◌}
 use mathlib.Core.Bool.{Bool, true, false, ◌&&◌}
 use mathlib.Core.Option.{Option, none, some}
 use native.Mathlib.Omega.{arith}
+use Rattle.std.proofs.Math.Bool.{and-false}
 use lib.ListN.{length, replicate, length-append}
 use lib.Dec.{leb}
 use borrow.Author.Tests.{le-leb, lt-leb, leb-true, leb-false, ltb-true, lt-ltb, le-ltb}
 use Rattle.coding.specs.Words.{Answer, no, ok}
 use Rattle.coding.specs.Bytes.{splice}
 use Rattle.coding.specs.Varint.{var_size}
-use Rattle.coding.specs.Said.{answer_of}
-use Rattle.std.specs.Prelude.{Result, Ok, Err, is_ok}
 use Rattle.coding.specs.Writing.{Written}
-use Rattle.coding.specs.declared.refusal.Refusal.{Refusal}
 use Rattle.coding.proofs.Laws.{length_bytes_be, length_var}
 use Rattle.shared.specs.declared.cid.ConnectionId.{ConnectionId}
 use Rattle.shared.specs.declared.kinds.CutNumber.{CutNumber}
 use Rattle.shared.specs.Cid.{cid_of, long_bytes}
 use Rattle.shared.proofs.Laws.{length_cid, length_long}
 use Rattle.shared.proofs.Back.{cid_same}
-use Rattle.number.specs.Cutting.{is_cut, cut_tag}
+use Rattle.number.specs.Cutting.{is_cut, length_bits, cut_tag}
 use Rattle.number.proofs.Windows.{cut_rule}
 use Rattle.packet.specs.TypeBits.{bits_of}
 use Rattle.protect.specs.Tests.{number_bytes, number_fits, least_header, header_tests}
@@ -32,19 +30,24 @@ use Rattle.packet_out.specs.Length.{length_field, length_into, length_set}
 
 -- ---- a number's rule, by its tag
 
-pub tag_is : (r : Result ℕ Refusal) (c : CutNumber) → answer_of r ≡ cut_tag c → is_ok r ≡ is_cut c
-unfolding answer_of cut_tag
-tag_is r c = go r (is_cut c)
-  where
-    go : (r : Result ℕ Refusal) (b : Bool) → answer_of r ≡ (if b then ok (c.0 - 1) else no 14) → is_ok r ≡ b
-    go (Ok t) true h = refl
-    go (Ok t) false h = let z : ◌≡◌ {A = ℕ} 0 1 = cc in absurd (omega arith)
-    go (Err why) true h = let z : ◌≡◌ {A = ℕ} 0 1 = cc in absurd (omega arith)
-    go (Err why) false h = refl
+pub cut_short : (c : CutNumber) → is_cut c ≡ true → (1 ≤ c.0) × (c.0 ≤ 4)
+cut_short c e = let w = (cut_rule c e).window in (w.low, w.high)
 
-pub tag_kept : (t : ℕ) (c : CutNumber) → ok t ≡ cut_tag c → is_cut c ≡ true → t ≡ c.0 - 1
+pub tagged : (t : ℕ) (c : CutNumber) → ok t ≡ cut_tag c → (is_cut c ≡ true) × (t ≡ length_bits c) × (t ≤ 3)
 unfolding cut_tag
-tag_kept t c e k = let h = rw k at e in cc
+tagged t c = go (is_cut c) refl
+  where
+    go : (b : Bool) → is_cut c ≡ b → ok t ≡ (if b then ok (c.0 - 1) else no 14) → (is_cut c ≡ true) × (t ≡ length_bits c) × (t ≤ 3)
+    go true k h = let e : t ≡ c.0 - 1 = cc in (k, e, omega (arith, cut_short c k))
+    go false k h = let z : ◌≡◌ {A = ℕ} 0 1 = cc in absurd (omega arith)
+
+pub untagged : (k : ℕ) (c : CutNumber) → no k ≡ cut_tag c → (k ≡ 14) × (is_cut c ≡ false)
+unfolding cut_tag
+untagged k c = go (is_cut c) refl
+  where
+    go : (b : Bool) → is_cut c ≡ b → no k ≡ (if b then ok (c.0 - 1) else no 14) → (k ≡ 14) × (is_cut c ≡ false)
+    go true e h = let z : ◌≡◌ {A = ℕ} 0 1 = cc in absurd (omega arith)
+    go false e h = (cc, e)
 
 -- ---- the rules that are kept
 
@@ -62,6 +65,15 @@ kept number dst src = go (leb dst.len 20) (leb src.len 20) (number_keeps number)
     go true true false p q s h = let z : ◌≡◌ {A = ℕ} 0 1 = cc in absurd (omega arith)
     go true false d p q s h = let z : ◌≡◌ {A = ℕ} 0 1 = cc in absurd (omega arith)
     go false b d p q s h = let z : ◌≡◌ {A = ℕ} 0 1 = cc in absurd (omega arith)
+
+-- and the facts that they are made of
+pub keeps : (number : Option CutNumber) (dst src : ConnectionId) → dst.len ≤ 20 → src.len ≤ 20 → number_keeps number ≡ true → keep_rules number dst src ≡ true
+unfolding keep_rules
+keeps number dst src a b k = rw (le-leb _ _ a, le-leb _ _ b, k)
+
+pub keeps_not : (number : Option CutNumber) (dst src : ConnectionId) → number_keeps number ≡ false → keep_rules number dst src ≡ false
+unfolding keep_rules
+keeps_not number dst src k = rw (k, and-false)
 
 -- ---- lengths
 
@@ -99,9 +111,6 @@ length_token token = simp (length-append, length_var)
 pub length_number : (c : CutNumber) → length (number_field (some c)) ≡ c.0
 unfolding number_field
 length_number c = length_bytes_be c.0 c.1
-
-pub cut_short : (c : CutNumber) → is_cut c ≡ true → (1 ≤ c.0) × (c.0 ≤ 4)
-cut_short c e = let w = (cut_rule c e).window in (w.low, w.high)
 
 -- a number's length, by its kind
 pub length_some : (number : Option CutNumber) → length (number_field number) ≡ number_bytes (number_len_in number)
@@ -177,28 +186,30 @@ module _ (field : List ℕ) (shape : Shape) (number : Option CutNumber) (dst src
 
 -- ---- what is written of a kind, by its shape
 
-module _ (field : List ℕ) (p : Plain) (dst src : ConnectionId) (token : List ℕ) (n : ℕ) (number : Option CutNumber) (en : number ≡ plain_number p) where
-  pub out_rules : keep_rules number dst src ≡ false → header_before field p dst src token n ≡ no 14
+module _ (field : List ℕ) (p : Plain) (dst src : ConnectionId) (token : List ℕ) (n : ℕ) where
+  pub out_rules : number_keeps (plain_number p) ≡ false → header_before field p dst src token n ≡ no 14
   unfolding header_before roomy
-  out_rules k = rw (← en, k)
+  out_rules k = rw (keeps_not (plain_number p) dst src k)
 
-  module _ (k : keep_rules number dst src ≡ true) (shape : Shape) (es : shape ≡ shape_by bits_of p) where
+  module _ (number : Option CutNumber) (en : number ≡ plain_number p) (to : dst.len ≤ 20) (from : src.len ≤ 20) (cut : number_keeps number ≡ true)
+      (shape : Shape) (es : shape ≡ shape_by bits_of p) where
     same : (x : List ℕ) → shape_bytes x shape number dst src token ≡ written_header bits_of x p dst src token
     unfolding written_header
     same x = rw (es, en)
 
     pub out_long : 65527 < length (shape_bytes placeholder shape number dst src token) + n → header_before field p dst src token n ≡ no 14
     unfolding header_before roomy
-    out_long h = rw (← en, k, lt-leb _ _ (rw (same placeholder) at h))
+    out_long h = rw (← en, keeps number dst src to from cut, lt-leb _ _ (rw (same placeholder) at h))
 
     pub out_ok : length (shape_bytes placeholder shape number dst src token) + n ≤ 65527
         → header_before field p dst src token n ≡ ok (shape_bytes field shape number dst src token)
     unfolding header_before roomy
-    out_ok h = rw (← en, k, le-leb _ _ (rw (same placeholder) at h)) (ap ok (sym (same field)))
+    out_ok h = rw (← en, keeps number dst src to from cut, le-leb _ _ (rw (same placeholder) at h)) (ap ok (sym (same field)))
 
-    -- the Length's two bytes do not count otherwise
-    pub out_length : length field ≡ 2 → length (shape_bytes field shape number dst src token) ≡ length (shape_bytes placeholder shape number dst src token)
-    out_length e = length_fields field placeholder shape number dst src token (e ∙ sym (length_bytes_be 2 0))
+-- the Length's two bytes do not count otherwise
+pub out_length : (field : List ℕ) (dst src : ConnectionId) (token : List ℕ) (number : Option CutNumber) (shape : Shape) → length field ≡ 2
+    → length (shape_bytes field shape number dst src token) ≡ length (shape_bytes placeholder shape number dst src token)
+out_length field dst src token number shape e = length_fields field placeholder shape number dst src token (e ∙ sym (length_bytes_be 2 0))
 
 -- what encode says besides the length
 module _ (p : Plain) {w : Answer (List ℕ)} {old new : List ℕ} where

@@ -1,11 +1,13 @@
 // The header that is to be written, without its connection ids and its token (packet.rs, Header; RFC 9000, 17).
-ghost use Rattle.std.specs.Prelude.{◌≡◌, true, ◌≤◌};
-ghost use Rattle.number.specs.Cutting.{is_cut, length_bits};
+ghost use Rattle.std.specs.Prelude.{◌≡◌, ◌+◌, ◌≤◌};
 ghost use Rattle.packet.specs.TypeBits.{bits_of};
 ghost use Rattle.packet.specs.Said.{option_of, long_type_of};
-ghost use Rattle.packet_out.specs.Encoding.{bit_if, long_first, short_first, plain_number, number_keeps, long_shape, shape_by};
-ghost use Rattle.packet_out.specs.Said.{plain_of, shape_of};
+ghost use Rattle.packet_out.specs.Encoding.{long_first, short_first, plain_number, shape_by};
+ghost use Rattle.packet_out.specs.Said.{plain_of, Formed, FieldFor};
 
+use crate::form;
+use crate::form::Form;
+use coding::Refusal;
 use packet::{LongHeaderType, LongType};
 use shared::{CutNumber, FIXED_BIT, KEY_PHASE_BIT, LONG_HEADER_FORM, SPIN_BIT};
 
@@ -33,14 +35,18 @@ pub enum Header {
     },
 }
 
-// What stands around the connection ids, whatever the kind: the first byte, a long header's version, and whether there is a
-// token, and a Length.
-#[derive(Clone, Copy, PartialEq, Eq)]
-pub struct Form {
-    pub first: u8,
-    pub version: Option<u32>,
-    pub has_token: bool,
-    pub has_length: bool,
+// A long header's first byte, its four low bits clear.
+fn long_first(ty: LongHeaderType, version: u32) -> u8
+    ensures { (result ≡ long_first (bits_of version (long_type_of ty))) × (result ≤ 0xf0) }
+{
+    LONG_HEADER_FORM + FIXED_BIT + ty.bits(version) * 16
+}
+
+// A short header's first byte, its two low bits clear.
+fn short_first(spin: bool, key_phase: bool) -> u8
+    ensures { (result ≡ short_first spin key_phase) × (result ≤ 0x64) }
+{
+    FIXED_BIT + u8::from(spin) * SPIN_BIT + u8::from(key_phase) * KEY_PHASE_BIT
 }
 
 impl Header {
@@ -54,90 +60,77 @@ impl Header {
             Header::Retry { .. } | Header::VersionNegotiate { .. } => None,
         }
     }
-}
 
-// Whether a header has a Length.
-pub(crate) fn has_length(header: Header) -> bool
-    ensures { result ≡ (shape_by bits_of (plain_of header)).has_length }
-{
-    matches!(header, Header::Initial { .. } | Header::Long { .. })
-}
-
-// A long header's first byte, its four low bits clear.
-fn long_first(ty: LongHeaderType, version: u32) -> u8
-    ensures { (result ≡ long_first (bits_of version (long_type_of ty))) × (result ≤ 0xf0) }
-{
-    LONG_HEADER_FORM + FIXED_BIT + ty.bits(version) * 16
-}
-
-fn bit_if(b: bool, x: u8) -> u8
-    ensures { (result ≡ bit_if b x) × (result ≤ x) }
-{
-    if b { x } else { 0 }
-}
-
-// A short header's first byte, its two low bits clear.
-fn short_first(spin: bool, key_phase: bool) -> u8
-    ensures { (result ≡ short_first spin key_phase) × (result ≤ 0x64) }
-{
-    FIXED_BIT + bit_if(spin, SPIN_BIT) + bit_if(key_phase, KEY_PHASE_BIT)
-}
-
-// The two low bits of the first byte: the number's tag.
-fn low_bits(c: CutNumber) -> u8
-    requires { is_cut c ≡ true }
-    ensures { (result ≡ length_bits c) × (result ≤ 3) }
-{
-    number::tag(c).unwrap()
-}
-
-// A long header's form.
-fn long_form(first: u8, version: u32, has_token: bool, has_length: bool) -> Form
-    ensures { shape_of result ≡ long_shape first version has_token has_length }
-{
-    Form {
-        first,
-        version: Some(version),
-        has_token,
-        has_length,
+    // Whether it has a Length.
+    fn has_length(self) -> bool
+        ensures { result ≡ (shape_by bits_of (plain_of self)).has_length }
+    {
+        matches!(self, Header::Initial { .. } | Header::Long { .. })
     }
-}
 
-// A header's form, by its kind.
-pub(crate) fn form_of(header: Header) -> Form
-    requires { number_keeps (plain_number (plain_of header)) ≡ true }
-    ensures { shape_of result ≡ shape_by bits_of (plain_of header) }
-{
-    match header {
-        Header::Initial { number, version } => {
-            let first = long_first(LongHeaderType::Initial, version) + low_bits(number);
-            long_form(first, version, true, true)
+    // The Length's two bytes as a number, 01 on top, where a payload of n bytes follows; 14 where they do not hold it. A header
+    // that has none does not look at them.
+    pub(crate) fn length_field(self, n: usize) -> Result<u16, Refusal>
+        ensures { FieldFor (plain_of self) n result }
+    {
+        if !self.has_length() {
+            return Ok(0);
         }
-        Header::Long {
-            ty,
-            number,
-            version,
-        } => {
-            let first = long_first(LongHeaderType::Standard(ty), version) + low_bits(number);
-            long_form(first, version, false, true)
+        let k = form::number_size(self.number());
+        if 0x4000 <= n || 0x4000 - n <= k {
+            return Err(Refusal::Argument);
         }
-        Header::Retry { version } => {
-            let first = long_first(LongHeaderType::Retry, version);
-            long_form(first, version, false, false)
-        }
-        Header::Short {
-            spin,
-            key_phase,
-            number,
-        } => Form {
-            first: short_first(spin, key_phase) + low_bits(number),
-            version: None,
-            has_token: false,
-            has_length: false,
-        },
-        Header::VersionNegotiate { random } => {
-            let first = LONG_HEADER_FORM + random % LONG_HEADER_FORM;
-            long_form(first, 0, false, false)
+        Ok((0x4000 + k + n) as u16)
+    }
+
+    // What stands around the connection ids; 14 where the number breaks its rule.
+    pub(crate) fn form(self) -> Result<Form, Refusal>
+        ensures { Formed (plain_of self) result }
+    {
+        match self {
+            Header::Initial { number, version } => Ok(Form {
+                first: long_first(LongHeaderType::Initial, version) + number::tag(number)?,
+                version: Some(version),
+                has_token: true,
+                has_length: true,
+                number: Some(number),
+            }),
+            Header::Long {
+                ty,
+                number,
+                version,
+            } => Ok(Form {
+                first: long_first(LongHeaderType::Standard(ty), version) + number::tag(number)?,
+                version: Some(version),
+                has_token: false,
+                has_length: true,
+                number: Some(number),
+            }),
+            Header::Retry { version } => Ok(Form {
+                first: long_first(LongHeaderType::Retry, version),
+                version: Some(version),
+                has_token: false,
+                has_length: false,
+                number: None,
+            }),
+            Header::Short {
+                spin,
+                key_phase,
+                number,
+            } => Ok(Form {
+                first: short_first(spin, key_phase) + number::tag(number)?,
+                version: None,
+                has_token: false,
+                has_length: false,
+                number: Some(number),
+            }),
+            Header::VersionNegotiate { random } => Ok(Form {
+                first: LONG_HEADER_FORM + random % LONG_HEADER_FORM,
+                version: Some(0),
+                has_token: false,
+                has_length: false,
+                number: None,
+            }),
         }
     }
 }

@@ -1,26 +1,27 @@
-use mathlib.Core.Path.{sym, ◌∙◌}
-use Rattle.packet_out.proofs.BeforePayload.{with_not, with_field}
-use Rattle.packet_out.proofs.Laws.{encodes_no}
-use Rattle.packet_out.specs.Said.{plain_of, encoded_of}
-use Rattle.shared.specs.Cid.{cid_of}
+use Rattle.std.proofs.lemmas.Result.{err_from_is_err_and}
 use Rattle.coding.proofs.Writes.{written_no}
+use Rattle.shared.specs.Cid.{cid_of}
+use Rattle.packet_out.specs.Said.{encoded_of}
+use Rattle.packet_out.proofs.BeforePayload.{with_wide, with_not, with_field}
+use Rattle.packet_out.proofs.Laws.{encodes_no}
 use Rattle.packet_out.proofs.encode_for.Goals as goal
 
-pub returns-then-not-length_fits : goal.returns-then-not-length_fits
-unfolding encoded_of
-returns-then-not-length_fits c =
-    let f = rw (c.has_length-has_length.ensures, c.number_size-k.ensures, c.number.ensures) at (sym c.length_fits.ensures ∙ c.if-not-length_fits.true) in
-    encodes_no _ (written_no _ (with_not _ _ _ _ _ f))
+pub returns-in_err-lent : goal.returns-in_err-lent
+unfolding encoded_of cid_of
+returns-in_err-lent c =
+    let p = err_from_is_err_and c.from_residual.result c.from_residual.ensures.1 in
+    let e = c.in_err-lent.ensures in
+    rw (p.1, p.2, e.0) (encodes_no _ (written_no _ (with_wide _ _ _ _ _ e.1)))
 
-pub length_field-field-requires : goal.length_field-field-requires
-length_field-field-requires c = sym c.length_fits.ensures ∙ c.if-not-length_fits.false
+pub returns-in_err-field : goal.returns-in_err-field
+unfolding encoded_of
+returns-in_err-field c =
+    let p = err_from_is_err_and c.from_residual-in_err-field.result c.from_residual-in_err-field.ensures.1 in
+    let e = c.in_err-field.ensures in
+    rw (p.1, p.2, e.0) (encodes_no _ (written_no _ (with_not _ _ _ _ _ e.1)))
 
 pub returns : goal.returns
 returns c =
-    let a = c.args in
-    let h = c.has_length-has_length.ensures in
-    let k = c.number_size-k.ensures in
-    let n = c.number.ensures in
-    let f = rw (h, k, n) at (sym c.length_fits.ensures ∙ c.if-not-length_fits.false) in
-    rw (← with_field (plain_of a.header) (cid_of a.dst_cid.now) (cid_of a.src_cid.now) a.token.now a.n f)
-    (rw (c.length_field-field.ensures, h, k, n) at c.encode_with.ensures)
+    let e = c.in_ok-lent.ensures in
+    let f = c.in_ok-field.ensures in
+    rw (← with_field _ _ _ _ _ f.0) (rw (e.0, e.1, e.2, f.1) at c.encode_with.ensures)

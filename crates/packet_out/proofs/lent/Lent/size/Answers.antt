@@ -10,22 +10,22 @@ use Rattle.packet_out.specs.Encoding.{placeholder}
 use Rattle.packet.specs.Said.{option_of}
 use Rattle.packet_out.specs.Said.{shape_of}
 use Rattle.packet_out.proofs.Laws.{size_bare, size_token, header_fits, header_long}
-use Rattle.packet_out.proofs.size.Goals as goal
+use Rattle.packet_out.proofs.lent.Lent.size.Goals as goal
 
 pub returns-then-not-form : goal.returns-then-not-form
 unfolding answer_of
 returns-then-not-form c =
     let a = c.args in
     let h : a.form.has_token ≡ false = not-true _ c.if-not-form.true in
-    let l = size_bare placeholder (shape_of a.form) (option_of a.number) (cid_of a.dst_cid.now) (cid_of a.src_cid.now) a.token.now _ c.fixed_size-fixed.ensures.0 h in
+    let l = size_bare placeholder (shape_of a.form) (option_of a.form.number) (cid_of a.self.dst_cid.now) (cid_of a.self.src_cid.now) a.self.token.now _ c.fixed_size-fixed.ensures.0 h in
     sym (header_fits _ _ (omega (arith, l, c.fixed_size-fixed.ensures.1)) ∙ ap ok l)
 
-pub returns-then-token-gt-MAX_DATAGRAM : goal.returns-then-token-gt-MAX_DATAGRAM
+pub returns-then-len-gt-MAX_DATAGRAM : goal.returns-then-len-gt-MAX_DATAGRAM
 unfolding answer_of
-returns-then-token-gt-MAX_DATAGRAM c =
+returns-then-len-gt-MAX_DATAGRAM c =
     let a = c.args in
     let h : a.form.has_token ≡ true = not-false _ c.if-not-form.false in
-    let l = size_token placeholder (shape_of a.form) (option_of a.number) (cid_of a.dst_cid.now) (cid_of a.src_cid.now) a.token.now _ c.fixed_size-fixed.ensures.0 h in
+    let l = size_token placeholder (shape_of a.form) (option_of a.form.number) (cid_of a.self.dst_cid.now) (cid_of a.self.src_cid.now) a.self.token.now _ c.fixed_size-fixed.ensures.0 h in
     sym (header_long _ _ (omega (arith, l)))
 
 pub returns-in_err-n : goal.returns-in_err-n
@@ -46,7 +46,7 @@ unfolding answer_of
 returns-then-all-gt-MAX_DATAGRAM c =
     let a = c.args in
     let h : a.form.has_token ≡ true = not-false _ c.if-not-form.false in
-    let l = size_token placeholder (shape_of a.form) (option_of a.number) (cid_of a.dst_cid.now) (cid_of a.src_cid.now) a.token.now _ c.fixed_size-fixed.ensures.0 h in
+    let l = size_token placeholder (shape_of a.form) (option_of a.form.number) (cid_of a.self.dst_cid.now) (cid_of a.self.src_cid.now) a.self.token.now _ c.fixed_size-fixed.ensures.0 h in
     let n = sized_bytes _ _ _ c.size.ensures c.in_ok-n.was in
     sym (header_long _ _ (omega (arith, l, n.1)))
 
@@ -55,6 +55,6 @@ unfolding answer_of
 returns c =
     let a = c.args in
     let h : a.form.has_token ≡ true = not-false _ c.if-not-form.false in
-    let l = size_token placeholder (shape_of a.form) (option_of a.number) (cid_of a.dst_cid.now) (cid_of a.src_cid.now) a.token.now _ c.fixed_size-fixed.ensures.0 h in
+    let l = size_token placeholder (shape_of a.form) (option_of a.form.number) (cid_of a.self.dst_cid.now) (cid_of a.self.src_cid.now) a.self.token.now _ c.fixed_size-fixed.ensures.0 h in
     let n = sized_bytes _ _ _ c.size.ensures c.in_ok-n.was in
     sym (header_fits _ _ (omega (arith, l, n.1)) ∙ ap ok (l ∙ rw n.1))

@@ -1,5 +1,5 @@
 use Rattle.packet_out.proofs.WholePut.{long_run}
-use Rattle.packet_out.proofs.put_long.Goals as goal
+use Rattle.packet_out.proofs.lent.put_long.Goals as goal
 
 pub returns : goal.returns
 returns c =
