@@ -1,44 +1,80 @@
-// What follows a frame's type: one small function for each kind, and one decision over the type's number (frame.rs, try_next).
-#![tactic(auto, using(crate::proofs::Rules::exit_body, crate::proofs::Rules::var_if_law, crate::proofs::Rules::data_if_law, ack::proofs::Tries::went, ack::proofs::Tries::left), unfolding(crate::specs::Table::frame_body_at, crate::specs::Table::table, crate::specs::Format::fields_at, crate::specs::Format::field_at, crate::specs::Format::then_read, crate::specs::Format::or_nothing, crate::specs::Said::body_of, crate::specs::Said::field_of, coding::specs::Words::and_then, coding::specs::Said::var_of, coding::specs::Said::read_of, coding::specs::Said::number_read))]
+// What follows a frame's type: a small function for each kind that is more than its values in a row, and one decision over the
+// type's number (frame.rs, try_next).
+#![tactic(auto, using(ack::proofs::Tries::exit_read, crate::proofs::Rules::exit_body, crate::proofs::Rules::var_if_law, crate::proofs::Rules::data_if_law, ack::proofs::Tries::went, ack::proofs::Tries::left), unfolding(crate::specs::Table::frame_body_at, crate::specs::Table::table, crate::specs::Format::fields_at, crate::specs::Format::field_at, crate::specs::Format::then_read, crate::specs::Format::or_nothing, crate::specs::Said::counts_at, crate::specs::Said::body_of, crate::specs::Said::field_of, coding::specs::Words::and_then, coding::specs::Said::var_of, coding::specs::Said::read_of, coding::specs::Said::number_read))]
 
-ghost use Rattle.std.specs.Prelude.{◌≡◌, true, [], ◌∷◌, ◌≤◌, length};
+ghost use Rattle.std.specs.Prelude.{◌≡◌, [], ◌≤◌, length};
 ghost use Rattle.coding.specs.Words.{max_datagram};
+ghost use Rattle.coding.specs.Reading.{fixed_at};
+ghost use Rattle.coding.specs.Said.{read_of};
+ghost use Rattle.coding.specs.Varint.{var_at};
 ghost use Rattle.shared.specs.Said.{dir_bit};
-ghost use Rattle.frame.specs.Format.{num, place, or_nothing, fields_at};
-ghost use Rattle.frame.specs.Table.{table, ack_fields, ecn_fields, count_fields, stream_fields, data_fields, frame_body_at};
-ghost use Rattle.frame.specs.Said.{body_of, type_value};
+ghost use Rattle.frame.specs.Format.{or_nothing, fields_at, bytes_at};
+ghost use Rattle.frame.specs.Table.{table, ack_fields, count_fields, stream_fields, data_fields, frame_body_at};
+ghost use Rattle.frame.specs.Said.{body_of, type_value, counts_at, MadeOf, MadeOfTwo};
 
 use crate::field;
 use crate::kinds::{
     Ack, AckFrequency, ApplicationClose, Close, ConnectionClose, Crypto, Datagram, Frame,
     NewConnectionId, NewToken, ResetStream, StopSending, Stream,
 };
-use coding::{Place, Refusal};
+use coding::{Place, Refusal, UnexpectedEnd};
 use ecn::EcnCounts;
 use shared::{Dir, FrameType, FullNumber, StreamId, types};
 
 // The frame and the place past it, or why it is refused.
 type Body = Result<(Frame, usize), Refusal>;
 
+// A frame of one integer.
+fn of_var<F: FnOnce(u64) -> Frame>(s: &[u8], at: usize, frame: F) -> Body
+    requires { F.IsAlwaysCallable frame }
+    ensures { MadeOf (F.post frame) (var_at s.now at) result }
+{
+    let (x, next) = coding::get_var(s, at)?;
+    Ok((frame(x.0), next))
+}
+
+// A frame of eight bytes, a number.
+fn of_num64<F: FnOnce(u64) -> Frame>(s: &[u8], at: usize, frame: F) -> Body
+    requires { F.IsAlwaysCallable frame }
+    ensures { MadeOf (F.post frame) (fixed_at 8 s.now at) result }
+{
+    let (x, next) = coding::get::<u64>(s, at)?;
+    Ok((frame(x), next))
+}
+
+// A frame of a stream's id and an integer.
+fn of_id<F: FnOnce(StreamId, u64) -> Frame>(s: &[u8], at: usize, frame: F) -> Body
+    requires { F.IsAlwaysCallable frame }
+    ensures { MadeOfTwo (λ id. F.post frame (record { 0 = id })) (var_at s.now at) (var_at s.now) result }
+{
+    let (id, p) = coding::get_var(s, at)?;
+    let (x, next) = coding::get_var(s, p)?;
+    Ok((frame(StreamId(id.0), x.0), next))
+}
+
+// A frame of an integer and of bytes with a length.
+fn of_bytes<F: FnOnce(u64, Place) -> Frame>(s: &[u8], at: usize, frame: F) -> Body
+    requires { F.IsAlwaysCallable frame }
+    ensures { MadeOfTwo (F.post frame) (var_at s.now at) (bytes_at s.now) result }
+{
+    let (x, p) = coding::get_var(s, at)?;
+    let (bytes, next) = field::take_len(s, p)?;
+    Ok((frame(x.0, bytes), next))
+}
+
 // The ECN counts that end an ACK.
-fn ack_ecn(s: &[u8], at: usize, largest: FullNumber, delay: u64, additional: Place) -> Body
-    ensures { body_of result ≡ fields_at 0x02 (ecn_fields true) s.now at (place additional ∷ num delay ∷ num largest.0 ∷ []) }
+fn ecn_counts(s: &[u8], at: usize) -> Result<(EcnCounts, usize), UnexpectedEnd>
+    ensures { read_of result ≡ counts_at s.now at }
 {
     let (ect0, p) = coding::get_var(s, at)?;
     let (ect1, q) = coding::get_var(s, p)?;
     let (ce, next) = coding::get_var(s, q)?;
-    let ecn = Some(EcnCounts {
+    let counts = EcnCounts {
         ect0: ect0.0,
         ect1: ect1.0,
         ce: ce.0,
-    });
-    let frame = Ack {
-        largest,
-        delay,
-        additional,
-        ecn,
     };
-    Ok((Frame::Ack(frame), next))
+    Ok((counts, next))
 }
 
 fn ack(s: &[u8], at: usize, ecn: bool) -> Body
@@ -48,16 +84,18 @@ fn ack(s: &[u8], at: usize, ecn: bool) -> Body
     let (largest, p) = coding::get_var(s, at)?;
     let (delay, q) = coding::get_var(s, p)?;
     let largest = FullNumber(largest.0);
-    let delay = delay.0;
-    let (additional, next) = field::ack_blocks(s, q, largest)?;
-    if ecn {
-        return ack_ecn(s, next, largest, delay, additional);
-    }
+    let (additional, t) = field::ack_blocks(s, q, largest)?;
+    let (ecn, next) = if ecn {
+        let (counts, next) = ecn_counts(s, t)?;
+        (Some(counts), next)
+    } else {
+        (None, t)
+    };
     let frame = Ack {
         largest,
-        delay,
+        delay: delay.0,
         additional,
-        ecn: None,
+        ecn,
     };
     Ok((Frame::Ack(frame), next))
 }
@@ -79,22 +117,11 @@ fn reset_stream(s: &[u8], at: usize) -> Body
 fn stop_sending(s: &[u8], at: usize) -> Body
     ensures { body_of result ≡ frame_body_at table 0x05 s.now at }
 {
-    let (id, p) = coding::get_var(s, at)?;
-    let (error_code, next) = coding::get_var(s, p)?;
-    let frame = StopSending {
-        id: StreamId(id.0),
-        error_code: error_code.0,
-    };
-    Ok((Frame::StopSending(frame), next))
-}
-
-fn crypto(s: &[u8], at: usize) -> Body
-    ensures { body_of result ≡ frame_body_at table 0x06 s.now at }
-{
-    let (offset, p) = coding::get_var(s, at)?;
-    let (data, next) = field::take_len(s, p)?;
-    let offset = offset.0;
-    Ok((Frame::Crypto(Crypto { offset, data }), next))
+    of_id(
+        s,
+        at,
+        |id, error_code| Frame::StopSending(StopSending { id, error_code }),
+    )
 }
 
 fn new_token(s: &[u8], at: usize) -> Body
@@ -123,55 +150,16 @@ fn stream(s: &[u8], at: usize, ty: u64) -> Body
     Ok((Frame::Stream(frame), next))
 }
 
-fn max_data(s: &[u8], at: usize) -> Body
-    ensures { body_of result ≡ frame_body_at table 0x10 s.now at }
-{
-    let (n, next) = coding::get_var(s, at)?;
-    Ok((Frame::MaxData(n.0), next))
-}
-
-fn max_stream_data(s: &[u8], at: usize) -> Body
-    ensures { body_of result ≡ frame_body_at table 0x11 s.now at }
-{
-    let (id, p) = coding::get_var(s, at)?;
-    let (offset, next) = coding::get_var(s, p)?;
-    let id = StreamId(id.0);
-    let offset = offset.0;
-    Ok((Frame::MaxStreamData { id, offset }, next))
-}
-
 fn max_streams(s: &[u8], at: usize, dir: Dir) -> Body
     ensures { body_of result ≡ fields_at 0x12 (count_fields (dir_bit dir)) s.now at [] }
 {
-    let (count, next) = coding::get_var(s, at)?;
-    let count = count.0;
-    Ok((Frame::MaxStreams { dir, count }, next))
-}
-
-fn data_blocked(s: &[u8], at: usize) -> Body
-    ensures { body_of result ≡ frame_body_at table 0x14 s.now at }
-{
-    let (offset, next) = coding::get_var(s, at)?;
-    let offset = offset.0;
-    Ok((Frame::DataBlocked { offset }, next))
-}
-
-fn stream_data_blocked(s: &[u8], at: usize) -> Body
-    ensures { body_of result ≡ frame_body_at table 0x15 s.now at }
-{
-    let (id, p) = coding::get_var(s, at)?;
-    let (offset, next) = coding::get_var(s, p)?;
-    let id = StreamId(id.0);
-    let offset = offset.0;
-    Ok((Frame::StreamDataBlocked { id, offset }, next))
+    of_var(s, at, |count| Frame::MaxStreams { dir, count })
 }
 
 fn streams_blocked(s: &[u8], at: usize, dir: Dir) -> Body
     ensures { body_of result ≡ fields_at 0x16 (count_fields (dir_bit dir)) s.now at [] }
 {
-    let (limit, next) = coding::get_var(s, at)?;
-    let limit = limit.0;
-    Ok((Frame::StreamsBlocked { dir, limit }, next))
+    of_var(s, at, |limit| Frame::StreamsBlocked { dir, limit })
 }
 
 fn new_connection_id(s: &[u8], at: usize) -> Body
@@ -191,28 +179,6 @@ fn new_connection_id(s: &[u8], at: usize) -> Body
         reset_token,
     };
     Ok((Frame::NewConnectionId(frame), next))
-}
-
-fn retire_connection_id(s: &[u8], at: usize) -> Body
-    ensures { body_of result ≡ frame_body_at table 0x19 s.now at }
-{
-    let (sequence, next) = coding::get_var(s, at)?;
-    let sequence = sequence.0;
-    Ok((Frame::RetireConnectionId { sequence }, next))
-}
-
-fn path_challenge(s: &[u8], at: usize) -> Body
-    ensures { body_of result ≡ frame_body_at table 0x1a s.now at }
-{
-    let (x, next) = coding::get::<u64>(s, at)?;
-    Ok((Frame::PathChallenge(x), next))
-}
-
-fn path_response(s: &[u8], at: usize) -> Body
-    ensures { body_of result ≡ frame_body_at table 0x1b s.now at }
-{
-    let (x, next) = coding::get::<u64>(s, at)?;
-    Ok((Frame::PathResponse(x), next))
 }
 
 // Type 0 reads as none.
@@ -239,11 +205,14 @@ fn connection_close(s: &[u8], at: usize) -> Body
 fn application_close(s: &[u8], at: usize) -> Body
     ensures { body_of result ≡ frame_body_at table 0x1d s.now at }
 {
-    let (error_code, p) = coding::get_var(s, at)?;
-    let (reason, next) = field::take_len(s, p)?;
-    let error_code = error_code.0;
-    let close = ApplicationClose { error_code, reason };
-    Ok((Frame::Close(Close::Application(close)), next))
+    of_bytes(
+        s,
+        at,
+        |error_code, reason| Frame::Close(Close::Application(ApplicationClose {
+            error_code,
+            reason,
+        })),
+    )
 }
 
 fn datagram(s: &[u8], at: usize, ty: u64) -> Body
@@ -283,21 +252,29 @@ pub(crate) fn read_body(s: &[u8], at: usize, ty: FrameType) -> Body
         types::ACK_ECN => ack(s, at, true),
         types::RESET_STREAM => reset_stream(s, at),
         types::STOP_SENDING => stop_sending(s, at),
-        types::CRYPTO => crypto(s, at),
+        types::CRYPTO => of_bytes(s, at, |offset, data| Frame::Crypto(Crypto { offset, data })),
         types::NEW_TOKEN => new_token(s, at),
         types::STREAM_FIRST..=types::STREAM_LAST => stream(s, at, t),
-        types::MAX_DATA => max_data(s, at),
-        types::MAX_STREAM_DATA => max_stream_data(s, at),
+        types::MAX_DATA => of_var(s, at, Frame::MaxData),
+        types::MAX_STREAM_DATA => of_id(s, at, |id, offset| Frame::MaxStreamData { id, offset }),
         types::MAX_STREAMS_BIDI => max_streams(s, at, Dir::Bi),
         types::MAX_STREAMS_UNI => max_streams(s, at, Dir::Uni),
-        types::DATA_BLOCKED => data_blocked(s, at),
-        types::STREAM_DATA_BLOCKED => stream_data_blocked(s, at),
+        types::DATA_BLOCKED => of_var(s, at, |offset| Frame::DataBlocked { offset }),
+        types::STREAM_DATA_BLOCKED => of_id(
+            s,
+            at,
+            |id, offset| Frame::StreamDataBlocked { id, offset },
+        ),
         types::STREAMS_BLOCKED_BIDI => streams_blocked(s, at, Dir::Bi),
         types::STREAMS_BLOCKED_UNI => streams_blocked(s, at, Dir::Uni),
         types::NEW_CONNECTION_ID => new_connection_id(s, at),
-        types::RETIRE_CONNECTION_ID => retire_connection_id(s, at),
-        types::PATH_CHALLENGE => path_challenge(s, at),
-        types::PATH_RESPONSE => path_response(s, at),
+        types::RETIRE_CONNECTION_ID => of_var(
+            s,
+            at,
+            |sequence| Frame::RetireConnectionId { sequence },
+        ),
+        types::PATH_CHALLENGE => of_num64(s, at, Frame::PathChallenge),
+        types::PATH_RESPONSE => of_num64(s, at, Frame::PathResponse),
         types::CONNECTION_CLOSE => connection_close(s, at),
         types::APPLICATION_CLOSE => application_close(s, at),
         types::HANDSHAKE_DONE => Ok((Frame::HandshakeDone, at)),

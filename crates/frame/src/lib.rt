@@ -20,7 +20,7 @@ pub use kinds::{
 use shared::FrameType;
 
 // A frame, its type as it was read, and the place past it.
-#[derive(Clone, Copy)]
+#[derive(Clone, Copy, PartialEq, Eq)]
 pub struct FrameRead {
     pub frame: Frame,
     pub ty: FrameType,
@@ -28,7 +28,7 @@ pub struct FrameRead {
 }
 
 // Why a frame is refused, with its start, and its type once read.
-#[derive(Clone, Copy)]
+#[derive(Clone, Copy, PartialEq, Eq)]
 pub struct InvalidFrame {
     pub why: Refusal,
     pub start: usize,
@@ -36,7 +36,7 @@ pub struct InvalidFrame {
 }
 
 // A step, and how many bytes it took: the frame's encoded size with its type.
-#[derive(Clone, Copy)]
+#[derive(Clone, Copy, PartialEq, Eq)]
 pub struct SizedStep {
     pub step: Option<Result<FrameRead, InvalidFrame>>,
     pub size: usize,
