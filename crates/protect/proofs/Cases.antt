@@ -1,4 +1,4 @@
--- The cases of the sample's place, finish and the mask step, each from the tests that lead to it.
+-- The cases of finish and the mask step, each from the tests that lead to it.
 use Prim.Native.Nat.{ℕ, zero, suc, ◌+◌, ◌-◌, ◌/◌, ◌<◌, ◌≤◌}
 use mathlib.Core.Path.{◌≡◌, refl, sym, ap, ◌∙◌}
 use mathlib.Core.List.{List, [], ◌∷◌}
@@ -9,16 +9,15 @@ use native.Mathlib.Omega.{arith}
 use lib.Bits.{bit_xor}
 use lib.Dec.{leb, eqb}
 use lib.ListN.{length, drop, set, length-drop, length-set}
-use borrow.Author.Tests.{lt-ltb, le-ltb, eq-eqb, ne_eqb, leb-true, eqb-true}
+use borrow.Author.Tests.{le-ltb, eq-eqb, ne_eqb, leb-true, eqb-true}
 use Rattle.coding.specs.Words.{Answer, no, ok, max_datagram}
 use Rattle.coding.specs.Bytes.{byte_at}
 use Rattle.shared.specs.FirstByte.{long_header_form}
 use Rattle.number.specs.Cutting.{tag_length, first_cut}
 use Rattle.protect.specs.Protection.{xor, xor_at, first_mask, number_mask, masked, applied, removed}
 use Rattle.std.specs.Prelude.{if◌then◌else◌}
-use Rattle.std.specs.Int.{from_bool}
 use Rattle.protect.specs.Tests.{in_size, has_sample, maskable, form_bit, number_fits, least_header, header_tests}
-use Rattle.protect.specs.Steps.{read_off, left_by, Changed, sample_at, Opened, unnumbered, opened_by, opened, open_at, Opens, finish_at, finished, Finishes, protect_at, Protects, mask_number, mask_at, Masks}
+use Rattle.protect.specs.Steps.{read_off, left_by, Changed, Opened, opened_by, opened, open_at, Opens, finish_at, protect_at, mask_number, mask_at}
 use Rattle.protect.proofs.Xor.{length_xor_at}
 use Rattle.protect.proofs.Parts.{first_stored}
 use Rattle.protect.proofs.Inside.{four_left}
@@ -28,11 +27,6 @@ pub reaches : (len at : ℕ) → has_sample len at ≡ true → at + 20 ≤ len
 reaches len at h = omega (arith, leb-true (at + 4 + 16) len h)
 
 -- ---- what can be masked
-
--- the form is the same bit, as the code has it
-pub form_is : (long : Bool) → from_bool long ≡ form_bit long
-form_is true = refl
-form_is false = refl
 
 -- what the two tests make of a packet that is changed
 abbrev then_ok : Answer (Unit {0}) → List ℕ → Answer (List ℕ)
@@ -85,9 +79,8 @@ first_masked long mask (suc at) n (b ∷ l) h k = refl
 -- ---- finish
 
 -- the mask takes none of the number's bytes away
-pub still_left : (packet ms : List ℕ) (at b n : ℕ) {new : List ℕ} → has_sample (length packet) at ≡ true → n ≤ 4 → new ≡ xor_at at ms (set packet 0 b)
-    → at + n ≤ length new
-still_left packet ms at b n {new} k h e =
+pub still_left : (packet ms : List ℕ) (at b : ℕ) {new : List ℕ} → has_sample (length packet) at ≡ true → new ≡ xor_at at ms (set packet 0 b) → at + 4 ≤ length new
+still_left packet ms at b {new} k e =
     let l : length new ≡ length packet = ap length e ∙ length_xor_at at ms (set packet 0 b) ∙ length-set packet 0 b in
     omega (arith, l, four_left packet at k, length-drop at packet)
 
@@ -157,55 +150,12 @@ tests_size header_len len has_length number h =
     let b = and_left (leb len max_datagram && leb header_len len) (number_fits number) a in
     leb-true len max_datagram (and_left (leb len max_datagram) (leb header_len len) b)
 
--- ---- the sample's place
-
-module _ (numbered : Bool) (packet : List ℕ) (at : ℕ) where
-  pub sample_big : max_datagram < length packet → no 14 ≡ sample_at numbered packet at
-  unfolding sample_at in_size
-  sample_big h = rw (lt-ltb max_datagram (length packet) h)
-
-  module _ (h : length packet ≤ max_datagram) where
-    pub sample_none : numbered ≡ false → ok none ≡ sample_at numbered packet at
-    unfolding sample_at in_size
-    sample_none e = rw (le-ltb max_datagram (length packet) h, e)
-
-    module _ (e : numbered ≡ true) where
-      pub sample_zero : at ≡ 0 → no 14 ≡ sample_at numbered packet at
-      unfolding sample_at in_size
-      sample_zero k = rw (le-ltb max_datagram (length packet) h, e, eq-eqb at 0 k)
-
-      module _ (k : at ≡ 0 → ⊥) where
-        pub sample_short : has_sample (length packet) at ≡ false → no 8 ≡ sample_at numbered packet at
-        unfolding sample_at in_size
-        sample_short j = rw (le-ltb max_datagram (length packet) h, e, ne_eqb at 0 k, j)
-
-        pub sample_some : has_sample (length packet) at ≡ true → ok (some (record { start = at + 4; len = 16 })) ≡ sample_at numbered packet at
-        unfolding sample_at in_size
-        sample_some j = rw (le-ltb max_datagram (length packet) h, e, ne_eqb at 0 k, j)
-
--- ---- finish of any kind
-
-module _ (numbered long : Bool) (packet : List ℕ) (at : ℕ) (mask : List ℕ) where
-  pub finish_big : max_datagram < length packet → finish_at numbered long packet at mask ≡ no 14
-  unfolding finish_at in_size
-  finish_big h = rw (lt-ltb max_datagram (length packet) h)
-
-  module _ (h : length packet ≤ max_datagram) where
-    pub finish_none : numbered ≡ false → Finishes numbered long packet at mask (ok unnumbered) packet
-    unfolding finish_at finished in_size
-    finish_none e = changed_ok _ packet (rw (le-ltb max_datagram (length packet) h, e)) (rw e)
-
-    pub finish_on : {b : Bool} {said : Answer Opened} {new : List ℕ} → numbered ≡ true → b ≡ long → Opens b packet at mask said new
-        → Finishes numbered long packet at mask said new
-    unfolding finish_at finished in_size
-    finish_on e f c = rw (le-ltb max_datagram (length packet) h, e, ← f) c
+-- ---- finish of any kind, and the mask step
 
 pub finish_ok : (long : Bool) (packet : List ℕ) (at : ℕ) (mask : List ℕ) → length packet ≤ max_datagram → (at ≡ 0 → ⊥) → has_sample (length packet) at ≡ true
     → byte_at packet 0 / long_header_form ≡ form_bit long → finish_at true long packet at mask ≡ ok (removed long mask at packet)
 unfolding finish_at in_size
 finish_ok long packet at mask h z k f = rw (le-ltb max_datagram (length packet) h) (open_ok long packet at mask z k f)
-
--- ---- the mask step
 
 module _ (long : Bool) (packet : List ℕ) (at : ℕ) (mask : List ℕ) where
   pub protect_no : {k : ℕ} → no k ≡ maskable long packet at → protect_at long packet at mask ≡ no k
@@ -224,20 +174,10 @@ module _ (long : Bool) (packet : List ℕ) (at : ℕ) (mask : List ℕ) where
         let h : 0 < length packet = omega (arith, leb-true (at + 4 + 16) (length packet) k) in
         protect_ok ∙ ap ok (sym (ep ∙ first_stored long mask at n m packet h em ∙ ap (λ (j : ℕ). masked long mask at j packet) en))
 
-module _ (header_len : ℕ) (number : Option ℕ) (has_length : Bool) (packet mask : List ℕ) where
-  pub mask_no : header_tests header_len number has_length (length packet) ≡ false → mask_at header_len number has_length packet mask ≡ no 14
-  unfolding mask_at
-  mask_no h = rw h
-
-  module _ (h : header_tests header_len number has_length (length packet) ≡ true) where
-    pub mask_none : number ≡ none → mask_at header_len number has_length packet mask ≡ ok packet
-    unfolding mask_at mask_number
-    mask_none e = rw (h, e)
-
-    pub mask_on : {said : Answer (Unit {0})} {new : List ℕ} (k : ℕ) → number ≡ some k → Protects has_length packet (header_len - k) mask said new
-        → Masks header_len number has_length packet mask said new
-    unfolding mask_at mask_number
-    mask_on k e c = rw (h, e) c
+pub mask_none : (header_len : ℕ) (number : Option ℕ) (has_length : Bool) (packet mask : List ℕ) → header_tests header_len number has_length (length packet) ≡ true
+    → number ≡ none → mask_at header_len number has_length packet mask ≡ ok packet
+unfolding mask_at mask_number
+mask_none header_len number has_length packet mask h e = rw (h, e)
 
 pub mask_ok : (header_len k : ℕ) (has_length : Bool) (packet mask : List ℕ) → header_tests header_len (some k) has_length (length packet) ≡ true
     → has_sample (length packet) (header_len - k) ≡ true → byte_at packet 0 / long_header_form ≡ form_bit has_length

@@ -1,6 +1,6 @@
 // Header protection, where the packet stands (RFC 9001, 5.4; packet.rs, PartialDecode::finish, decrypt_header and
 // PartialEncode::finish): the sample's place, finish, and the mask step. The mask comes as a value.
-#![tactic(auto)]
+#![tactic(auto, unfolding(coding::specs::Said::answer_of, crate::specs::Tests::in_size, crate::specs::Tests::maskable, crate::specs::Tests::header_tests, crate::specs::Steps::read_off, crate::specs::Steps::left_by, crate::specs::Steps::sample_at, crate::specs::Steps::opened_by, crate::specs::Steps::finish_at, crate::specs::Steps::finished, crate::specs::Steps::mask_number, crate::specs::Steps::mask_at, crate::specs::Said::sample_of, crate::specs::Said::opened_of, crate::specs::Said::opens_of, crate::specs::Said::finished_of))]
 
 ghost use Rattle.std.specs.Prelude.{◌≡◌, true, ◌+◌, ◌≤◌, length, drop, set};
 ghost use Rattle.std.specs.Option.{SomeIff};
@@ -79,7 +79,8 @@ fn mask_number(number: &mut [u8], mask: [u8; 5])
     }
 }
 
-// Stores the first byte, and XORs the mask over the number's n bytes, in the packet from its number offset on.
+// Stores the first byte, and XORs the mask over the number's n bytes, in the packet from its number offset on. (Packet, number
+// offset and mask are no record, here and below: the C interface hands them over one by one.)
 fn mask_header(packet: &mut [u8], number_offset: usize, first: u8, n: usize, mask: [u8; 5])
     requires { (n ≤ 4) × (number_offset + 4 ≤ length packet.old) }
     ensures { packet.new ≡ xor_at number_offset (number_mask n mask) (set packet.old 0 first) }
@@ -90,14 +91,11 @@ fn mask_header(packet: &mut [u8], number_offset: usize, first: u8, n: usize, mas
 
 // The number of len bytes at the number offset.
 fn decode(len: usize, packet: &[u8], number_offset: usize) -> CutNumber
-    requires { (len ≤ 4) × (number_offset + len ≤ length packet.now) }
+    requires { (1 ≤ len) × ((len ≤ 4) × (number_offset + 4 ≤ length packet.now)) }
     ensures { result ≡ first_cut len (drop number_offset packet.now) }
 {
-    let mut value = 0;
-    for b in &packet[number_offset..number_offset + len] {
-        value = value * 256 + u32::from(*b);
-    }
-    CutNumber(len, value)
+    let (word, _) = coding::get::<u32>(packet, number_offset).unwrap();
+    number::decode(len, word).unwrap()
 }
 
 // What the first byte without its mask and the number say.
@@ -211,6 +209,7 @@ fn header_end(len: usize, number_offset: usize, number: Option<usize>) -> Option
 }
 
 // The packet's header with its number, or no bytes where the packet does not hold it.
+#[tactic(auto, unfolding(coding::specs::Places::part_of, coding::specs::Places::start_of))]
 pub fn header_part(packet: &[u8], number_offset: usize, number: Option<usize>) -> &[u8]
     ensures { PartAt packet.entry result (header_place number_offset (number_len_of number)) }
 {
@@ -221,6 +220,7 @@ pub fn header_part(packet: &[u8], number_offset: usize, number: Option<usize>) -
 }
 
 // What follows the header, or no bytes where the packet does not hold it.
+#[tactic(auto, unfolding(coding::specs::Places::part_of, coding::specs::Places::start_of))]
 pub fn payload_part(packet: &[u8], number_offset: usize, number: Option<usize>) -> &[u8]
     ensures { PartAt packet.entry result (payload_place number_offset (number_len_of number) (length packet.now)) }
 {

@@ -1,4 +1,4 @@
-use Rattle.std.proofs.Common.{◌≤◌, length, rules, arith, ap, ◌∙◌}
+use Rattle.std.proofs.Common.{length, rules, arith, ap, ◌∙◌}
 use Rattle.std.proofs.lemmas.Result.{err_from_is_err_and}
 use Rattle.coding.specs.Words.{ok}
 use Rattle.coding.specs.Said.{answer_of}
@@ -31,8 +31,7 @@ mask_header-requires c =
 pub decode-number-requires : goal.decode-number-requires
 unfolding answer_of
 decode-number-requires c =
-    let k : c.decode_len-len.result ≤ 4 = omega (arith, c.decode_len-len.ensures) in
-    (k, still_left c.args.packet.now _ _ _ _ (maskable_is _ _ _ c.in_ok-maskable.ensures).sampled k c.mask_header.ensures)
+    (omega (arith, c.decode_len-len.ensures), (omega (arith, c.decode_len-len.ensures), still_left _ _ _ _ (maskable_is _ _ _ c.in_ok-maskable.ensures).sampled c.mask_header.ensures))
 
 pub returns : goal.returns
 unfolding answer_of opens_of
