@@ -9,6 +9,8 @@ use lib.ListN.{length, length-append}
 use Rattle.coding.specs.Writing.{Put}
 use Rattle.coding.proofs.Laws.{length_splice}
 use Rattle.coding.proofs.Writes.{So, so_none, so_put, put_so}
+use Rattle.std.specs.Prelude.{Option as Maybe, Some, None}
+use Rattle.packet.specs.Said.{option_of}
 use Rattle.packet.proofs.Walks.{repeated, walk_steps, step_inside}
 use Rattle.dump_text.specs.Dump.{lines_of, dump_text, next_of}
 use Rattle.dump_text.specs.Turns.{step_here, line_at, place_after, Roomy, AllPut}
@@ -175,3 +177,23 @@ module _ {s old buf : List ℕ} {at p n : ℕ} (l : length s < 2 ^ 64) where
         record { len = counting_done g.count (q - p) (line_len true g r) e; bytes = λ f. let z : ◌≡◌ {A = ℕ} 0 1 = cc in absurd (omega arith) }
     lines_done false g r e =
         record { len = counting_done g.count (q - p) (line_len false g r) e; bytes = λ f. (going_done g.place r put e).bytes }
+
+-- a step to go, or none
+abbrev pub Goes : List ℕ → List ℕ → List ℕ → Bool → Maybe ℕ → ℕ → ℕ → Type 0
+Goes s old buf anew (Some at) p n = Lines s old buf anew at p n
+Goes s old buf anew None p n = AllPut s anew old n buf
+
+-- how far the walk has to go
+abbrev pub left : List ℕ → Maybe ℕ → ℕ
+left s (Some at) = suc (length s - at)
+left s None = 0
+
+pub left_less : (s : List ℕ) (at : ℕ) (o : Maybe ℕ) → option_of o ≡ next_of (step_here s at).met → left s o < suc (length s - at)
+left_less s at (Some next) e = let m = moves s at next e in omega arith
+left_less s at None e = omega arith
+
+pub goes_on : {s old buf : List ℕ} {at p n : ℕ} → length s < 2 ^ 64 → {new : List ℕ} {q : ℕ} → Put (line_at s at) buf p q new
+    → (anew : Bool) → Lines s old buf anew at p n → Roomy anew s (length old) → (o : Maybe ℕ) → option_of o ≡ next_of (step_here s at).met
+    → Goes s old new anew o (place_after anew q) (n + (q - p))
+goes_on l put anew g r (Some next) e = lines_more l put anew g r next e
+goes_on l put anew g r None e = lines_done l put anew g r e

@@ -74,6 +74,7 @@ fn put_end(buf: &mut [u8], at: usize, total: usize) -> usize
 
 // One step of the walk, and its line: the place in the datagram where the next step is, where there is one, and the place past
 // the text so far.
+#[tactic(auto, unfolding(crate::specs::Turns::line_at, crate::specs::Dump::line_of, packet::specs::Said::packet_step_of))]
 fn put_step(s: &[u8], at: usize, buf: &mut [u8], p: usize) -> (Option<usize>, usize)
     requires { p + length (line_at s.now at) ≤ length buf.old }
     ensures { Turned s.now at buf.old p result buf.new }
@@ -103,18 +104,16 @@ fn put_lines(s: &[u8], buf: &mut [u8], anew: bool) -> usize
     requires { Roomy anew s.now (length buf.old) }
     ensures { AllPut s.now anew buf.old result buf.new }
 {
-    let mut at = 0;
+    let mut next = Some(0);
     let mut p = 0;
     let mut n = 0;
-    loop {
-        let (next, q) = put_step(s, at, buf, p);
+    while let Some(at) = next {
+        let (after, q) = put_step(s, at, buf, p);
         n += q - p;
-        let Some(place) = next else {
-            return n;
-        };
-        at = place;
         p = place_after(anew, q);
+        next = after;
     }
+    n
 }
 
 // The length of the whole text: each of its lines is put into the same small buffer.

@@ -1,10 +1,8 @@
-use Prim.Native.Nat.{◌-◌}
-use lib.ListN.{length}
-use Rattle.dump_text.proofs.Loops.{Lines}
+use Rattle.dump_text.proofs.Loops.{Goes, left}
 use Rattle.dump_text.proofs.put_lines.Given as goal
 
-abbrev pub invariant-loop-place : goal.invariant-loop-place
-invariant-loop-place l = Lines l.s l.initial.buf l.buf l.anew l.at l.p l.n
+abbrev pub invariant-loop-next : goal.invariant-loop-next
+invariant-loop-next l = Goes l.s l.initial.buf l.buf l.anew l.next l.p l.n
 
-abbrev pub decreases-loop-place : goal.decreases-loop-place
-decreases-loop-place l = length l.s - l.at
+abbrev pub decreases-loop-next : goal.decreases-loop-next
+decreases-loop-next l = left l.s l.next
