@@ -2,7 +2,7 @@
 // end past its range's largest number.
 #![tactic(auto)]
 
-ghost use Rattle.std.specs.Prelude.{◌≡◌, true, [], ◌+◌, ◌-◌, ◌*◌, ◌≤◌, ◌<◌, length, get_or};
+ghost use Rattle.std.specs.Prelude.{◌≡◌, true, false, [], MatchOption, ◌+◌, ◌-◌, ◌*◌, ◌≤◌, ◌<◌, length, get_or};
 ghost use Rattle.coding.specs.Words.{max_datagram, number_end};
 ghost use Rattle.coding.specs.Varint.{var_size};
 ghost use Rattle.coding.specs.Said.{answer_of};
@@ -42,38 +42,6 @@ fn var_size(x: u64) -> usize
     VarInt(x).size().unwrap()
 }
 
-// A gap or a block: the number after number i of the list minus that one, less one.
-fn step_at(list: &[u64], i: usize) -> u64
-    requires { (is_ranges list.now ≡ true) × (i + 1 < length list.now) }
-    ensures { (result ≡ get_or list.now (i + 1) 0 - get_or list.now i 0 - 1) × (result < number_end) }
-{
-    list[i + 1] - list[i] - 1
-}
-
-// The bytes of the blocks.
-fn blocks_len(list: &[u64]) -> usize
-    requires { (is_ranges list.now ≡ true) × (length list.now ≤ max_datagram) }
-    ensures { (result ≡ length (block_bytes (all_ranges list.now))) × (result ≤ 8 * 65527) }
-{
-    let mut len = 0;
-    for i in (0..list.len() - 1).rev() {
-        len += var_size(step_at(list, i));
-    }
-    len
-}
-
-// Puts the blocks, the largest range's first.
-fn put_blocks(list: &[u64], buf: &mut [u8], at: usize) -> usize
-    requires { (is_ranges list.now ≡ true) × (at + length (block_bytes (all_ranges list.now)) ≤ length buf.old) }
-    ensures { Put (block_bytes (all_ranges list.now)) buf.old at result buf.new }
-{
-    let mut next = at;
-    for i in (0..list.len() - 1).rev() {
-        next = coding::write_var(buf, next, step_at(list, i));
-    }
-    next
-}
-
 fn ack_type(ecn: Option<EcnCounts>) -> FrameType
     ensures { result.0 ≡ ack_type_of (ecn_given ecn) }
 {
@@ -81,15 +49,6 @@ fn ack_type(ecn: Option<EcnCounts>) -> FrameType
         Some(_) => FrameType::ACK_ECN,
         None => FrameType::ACK,
     }
-}
-
-// The integers before the blocks: the type, the largest number, the delay, and how many ranges follow the first.
-fn head_of(delay: u64, list: &[u64], ecn: Option<EcnCounts>) -> [u64; 4]
-    requires { is_ranges list.now ≡ true }
-    ensures { result ≡ head_of delay (all_ranges list.now) (ecn_given ecn) }
-{
-    let n = list.len();
-    [ack_type(ecn).0, list[n - 1] - 1, delay, (n / 2 - 1) as u64]
 }
 
 // The bytes of the ECN counts, or 14.
@@ -111,32 +70,84 @@ fn put_counts(ecn: Option<EcnCounts>, buf: &mut [u8], at: usize) -> usize
     }
 }
 
-// The bytes of the frame of a list that keeps its rule, or 14. Each number of the list has a byte or more.
-fn frame_len(delay: u64, list: &[u64], ecn: Option<EcnCounts>) -> Result<usize, Refusal>
-    requires { is_ranges list.now ≡ true }
-    ensures { answer_of result ≡ length_of (ack_out delay list.now (ecn_given ecn)) }
-{
-    if MAX_DATAGRAM < list.len() {
-        return Err(Refusal::Argument);
-    }
-    let head = head_of(delay, list, ecn);
-    let first = row_out::vars_len(&head)?;
-    let last = counts_len(ecn)?;
-    let all = first + blocks_len(list) + last;
-    if MAX_DATAGRAM < all {
-        return Err(Refusal::Argument);
-    }
-    Ok(all)
+// A list of ranges that keeps its rule.
+#[derive(Clone, Copy)]
+struct Ranges<'a> {
+    list: &'a [u64],
+    ghost keeps: { is_ranges list.now ≡ true },
 }
 
-// The bytes of the frame, or 14.
-fn ack_len(delay: u64, list: &[u64], ecn: Option<EcnCounts>) -> Result<usize, Refusal>
-    ensures { answer_of result ≡ length_of (ack_out delay list.now (ecn_given ecn)) }
-{
-    if is_ranges(list) {
-        frame_len(delay, list, ecn)
-    } else {
-        Err(Refusal::Argument)
+impl<'a> Ranges<'a> {
+    fn new(list: &'a [u64]) -> Option<Ranges<'a>>
+        ensures { MatchOption result (is_ranges list.now ≡ false) (λ r. r.list.now ≡ list.now) }
+    {
+        if is_ranges(list) {
+            Some(Ranges { list })
+        } else {
+            None
+        }
+    }
+
+    // A gap or a block: the number after number i of the list minus that one, less one.
+    fn step(self, i: usize) -> u64
+        requires { i + 1 < length self.list.now }
+        ensures { (result ≡ get_or self.entry.list.now (i + 1) 0 - get_or self.entry.list.now i 0 - 1) × (result < number_end) }
+    {
+        self.list[i + 1] - self.list[i] - 1
+    }
+
+    // The bytes of the blocks.
+    fn blocks_len(self) -> usize
+        requires { length self.list.now ≤ max_datagram }
+        ensures { (result ≡ length (block_bytes (all_ranges self.entry.list.now))) × (result ≤ 8 * 65527) }
+    {
+        let mut len = 0;
+        for i in (0..self.list.len() - 1).rev() {
+            len += var_size(self.step(i));
+        }
+        len
+    }
+
+    // Puts the blocks, the largest range's first.
+    fn put_blocks(self, buf: &mut [u8], at: usize) -> usize
+        requires { at + length (block_bytes (all_ranges self.list.now)) ≤ length buf.old }
+        ensures { Put (block_bytes (all_ranges self.entry.list.now)) buf.old at result buf.new }
+    {
+        let mut next = at;
+        for i in (0..self.list.len() - 1).rev() {
+            next = coding::write_var(buf, next, self.step(i));
+        }
+        next
+    }
+
+    // The integers before the blocks: the type, the largest number, the delay, and how many ranges follow the first.
+    fn head(self, delay: u64, ecn: Option<EcnCounts>) -> [u64; 4]
+        ensures { result ≡ head_of delay (all_ranges self.entry.list.now) (ecn_given ecn) }
+    {
+        let n = self.list.len();
+        [
+            ack_type(ecn).0,
+            self.list[n - 1] - 1,
+            delay,
+            (n / 2 - 1) as u64,
+        ]
+    }
+
+    // The bytes of the frame, or 14. Each number of the list has a byte or more.
+    fn frame_len(self, delay: u64, ecn: Option<EcnCounts>) -> Result<usize, Refusal>
+        ensures { answer_of result ≡ length_of (ack_out delay self.entry.list.now (ecn_given ecn)) }
+    {
+        if MAX_DATAGRAM < self.list.len() {
+            return Err(Refusal::Argument);
+        }
+        let head = self.head(delay, ecn);
+        let first = row_out::vars_len(&head)?;
+        let last = counts_len(ecn)?;
+        let all = first + self.blocks_len() + last;
+        if MAX_DATAGRAM < all {
+            return Err(Refusal::Argument);
+        }
+        Ok(all)
     }
 }
 
@@ -149,12 +160,15 @@ pub fn ack(
 ) -> Result<usize, Refusal>
     ensures { Written (ack_out delay list.now (ecn_given ecn)) out.old (answer_of result) out.new }
 {
-    let len = ack_len(delay, list, ecn)?;
+    let Some(ranges) = Ranges::new(list) else {
+        return Err(Refusal::Argument);
+    };
+    let len = ranges.frame_len(delay, ecn)?;
     if out.len() < len {
         return Err(Refusal::Room);
     }
-    let head = head_of(delay, list, ecn);
+    let head = ranges.head(delay, ecn);
     let blocks = row_out::put_vars(out, 0, &head);
-    let counts = put_blocks(list, out, blocks);
+    let counts = ranges.put_blocks(out, blocks);
     Ok(put_counts(ecn, out, counts))
 }
