@@ -33,6 +33,7 @@ fn rest_at(s: &[u8], n: usize) -> Option<Place>
 }
 
 // A packet of n bytes.
+#[tactic(auto, unfolding(crate::specs::Split::cut_at, crate::specs::Said::partial_of))]
 fn cut_at(plain_header: Decoded, s: &[u8], n: usize) -> PartialDecode
     ensures { partial_of result ≡ cut_at (decoded_of plain_header) s.now n }
 {
@@ -44,6 +45,7 @@ fn cut_at(plain_header: Decoded, s: &[u8], n: usize) -> PartialDecode
 }
 
 // Begin decoding a packet, and where the datagram goes on. With a Length it ends so many bytes past its header.
+#[tactic(auto, using(crate::proofs::Cases::error_says), unfolding(coding::specs::Words::and_then, coding::specs::Said::found_by, crate::specs::Split::split_by, crate::specs::Split::split_on, crate::specs::Split::split_with, crate::specs::Said::decoded_of, crate::specs::Said::outcome_of, crate::specs::Said::split_of))]
 pub fn split(
     s: &[u8],
     local: usize,

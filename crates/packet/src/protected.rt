@@ -58,6 +58,7 @@ fn long_tail(r: &mut Reader, ty: LongHeaderType) -> Result<ProtectedHeader, Pack
 }
 
 // The version, the two connection ids, and what stands past them. The connection ids are made just before the answer.
+#[tactic(auto, unfolding(coding::specs::Words::and_then, coding::specs::Said::found_by, crate::specs::Header::long_at, crate::specs::Said::outcome_of))]
 fn long_header(s: &[u8], first: u8, versions: &[u32]) -> Result<Decoded, PacketDecodeError>
     ensures { outcome_of result ≡ long_at type_of (first / 16) (first % 16) s.now versions.now }
 {
@@ -110,6 +111,7 @@ fn short_header(s: &[u8], first: u8, local: usize) -> Result<Decoded, PacketDeco
 }
 
 // Decode a plain header, with the length of the connection ids that we hand out, and the versions that we speak.
+#[tactic(auto, unfolding(coding::specs::Words::and_then, coding::specs::Said::found_by, crate::specs::Header::first_at, crate::specs::Header::header_by, crate::specs::Said::outcome_of))]
 pub fn decode(
     s: &[u8],
     local: usize,

@@ -21,6 +21,7 @@ pub struct StepError {
 }
 
 // The packet at a place, or none at the end of the datagram; the next step is at its end.
+#[tactic(auto, using(crate::proofs::Cases::error_says, crate::proofs::Cases::from_on), unfolding(crate::specs::Split::no_packet, crate::specs::Walk::met_on, crate::specs::Walk::step_on, crate::specs::Walk::stop_at, crate::specs::Walk::packet_step_at, crate::specs::Said::decoded_of, crate::specs::Said::partial_of, crate::specs::Said::split_of, crate::specs::Said::packet_step_of))]
 pub fn step(
     s: &[u8],
     at: usize,

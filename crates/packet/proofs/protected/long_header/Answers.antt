@@ -9,20 +9,6 @@ use Rattle.packet.proofs.Cases.{low_seven, any_listed}
 use Rattle.packet.proofs.protected.long_header.Goals as goal
 use Rattle.packet.proofs.protected.long_header.Goals.{then-version-eq0, else-version-eq0+then-contains+in_ok-header}
 
-pub returns-in_err-version : goal.returns-in_err-version
-unfolding long_at and_then found_by outcome_of
-returns-in_err-version c =
-    let p = err_from_is_err_and c.from_residual.result c.from_residual.ensures.1 in
-    rw (p.1, p.2, ← c.in_err-version.ensures.finds)
-
-pub returns-in_default : goal.returns-in_default
-unfolding long_at and_then found_by outcome_of
-returns-in_default c = rw (← c.in_ok-version.ensures.finds, ← c.in_ok-version.ensures.bytes, ← c.in_default.ensures.finds)
-
-pub returns-in_default-long_place : goal.returns-in_default-long_place
-unfolding long_at and_then found_by outcome_of
-returns-in_default-long_place c = rw (← c.in_ok-version.ensures.finds, ← c.in_ok-version.ensures.bytes, ← c.in-Ok.ensures.finds, ← c.in-Ok.ensures.bytes, ← c.in_default-long_place.ensures.finds)
-
 pub returns-in_err-header : goal.returns-in_err-header
 unfolding long_at body_at and_then found_by outcome_of tail_of
 returns-in_err-header c =
