@@ -1,4 +1,6 @@
 // The first packet of a datagram, and the rest (packet.rs, PartialDecode::new; RFC 9000, 12.2).
+#![tactic(auto, using(crate::proofs::Cases::error_says), unfolding(coding::specs::Words::and_then, coding::specs::Said::found_by, crate::specs::Split::rest_at, crate::specs::Split::cut_at, crate::specs::Split::split_by, crate::specs::Split::split_on, crate::specs::Split::split_with, crate::specs::Said::decoded_of, crate::specs::Said::outcome_of, crate::specs::Said::partial_of, crate::specs::Said::split_of))]
+
 ghost use Rattle.std.specs.Prelude.{◌≡◌};
 ghost use Rattle.coding.specs.Words.{ok};
 ghost use Rattle.coding.specs.Places.{Part, start_of, part_of};
@@ -19,7 +21,6 @@ pub struct PartialDecode {
 // A part of no bytes.
 const NOWHERE: Place = Place { start: 0, len: 0 };
 
-#[tactic(auto, unfolding(crate::specs::Split::rest_at))]
 fn rest_at(s: &[u8], n: usize) -> Option<Place>
     ensures { option_of result ≡ rest_at s.now n }
 {
@@ -33,7 +34,6 @@ fn rest_at(s: &[u8], n: usize) -> Option<Place>
 }
 
 // A packet of n bytes.
-#[tactic(auto, unfolding(crate::specs::Split::cut_at, crate::specs::Said::partial_of))]
 fn cut_at(plain_header: Decoded, s: &[u8], n: usize) -> PartialDecode
     ensures { partial_of result ≡ cut_at (decoded_of plain_header) s.now n }
 {
@@ -45,7 +45,6 @@ fn cut_at(plain_header: Decoded, s: &[u8], n: usize) -> PartialDecode
 }
 
 // Begin decoding a packet, and where the datagram goes on. With a Length it ends so many bytes past its header.
-#[tactic(auto, using(crate::proofs::Cases::error_says), unfolding(coding::specs::Words::and_then, coding::specs::Said::found_by, crate::specs::Split::split_by, crate::specs::Split::split_on, crate::specs::Split::split_with, crate::specs::Said::decoded_of, crate::specs::Said::outcome_of, crate::specs::Said::split_of))]
 pub fn split(
     s: &[u8],
     local: usize,

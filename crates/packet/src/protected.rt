@@ -1,4 +1,6 @@
 // The header as far as it can be read without keys (packet.rs, ProtectedHeader::decode; RFC 9000, 17.2 and 17.3).
+#![tactic(auto, unfolding(coding::specs::Words::and_then, coding::specs::Said::found_by, crate::specs::Header::outside, crate::specs::Header::unfixed, crate::specs::Header::initial_at, crate::specs::Header::length_at, crate::specs::Header::tail_at, crate::specs::Header::long_at, crate::specs::Header::short_at, crate::specs::Header::headed, crate::specs::Header::first_at, crate::specs::Header::header_by, crate::specs::Said::tail_of, crate::specs::Said::decoded_of, crate::specs::Said::outcome_of))]
+
 ghost use Rattle.std.specs.Prelude.{◌≡◌, ℕ, ◌/◌, ◌%◌};
 ghost use Rattle.shared.specs.FirstByte.{spin_bit};
 ghost use Rattle.packet.specs.TypeBits.{type_of};
@@ -13,7 +15,6 @@ use shared::{ConnectionId, FIXED_BIT, LONG_HEADER_FORM, MAX_CID_SIZE, SPIN_BIT};
 pub const MAX_VERSIONS: usize = 16;
 
 // Whether an argument is outside its rule.
-#[tactic(auto, unfolding(crate::specs::Header::outside))]
 pub(crate) fn is_outside(s: &[u8], local: usize, versions: &[u32]) -> bool
     ensures { result ≡ outside s.now local versions.now }
 {
@@ -21,7 +22,6 @@ pub(crate) fn is_outside(s: &[u8], local: usize, versions: &[u32]) -> bool
 }
 
 // Whether the fixed bit is clear, and grease is off.
-#[tactic(auto, unfolding(crate::specs::Header::unfixed))]
 fn is_unfixed(first: u8, grease: bool) -> bool
     ensures { result ≡ unfixed first grease }
 {
@@ -30,7 +30,6 @@ fn is_unfixed(first: u8, grease: bool) -> bool
 
 // What stands past a long header's connection ids is its header and the place past it. Here: an Initial's token behind its
 // length, and its Length.
-#[tactic(auto, unfolding(coding::specs::Words::and_then, coding::specs::Said::found_by, crate::specs::Header::initial_at, crate::specs::Said::tail_of))]
 fn initial_tail(r: &mut Reader) -> Result<ProtectedHeader, PacketDecodeError>
     ensures { (made : Header → ℕ → Outcome) → tail_of made result r.new.at ≡ initial_at made r.old.bytes.now r.old.at }
 {
@@ -43,7 +42,6 @@ fn initial_tail(r: &mut Reader) -> Result<ProtectedHeader, PacketDecodeError>
 }
 
 // By the type.
-#[tactic(auto, unfolding(coding::specs::Words::and_then, coding::specs::Said::found_by, crate::specs::Header::length_at, crate::specs::Header::tail_at, crate::specs::Said::tail_of))]
 fn long_tail(r: &mut Reader, ty: LongHeaderType) -> Result<ProtectedHeader, PacketDecodeError>
     ensures { (made : Header → ℕ → Outcome) → tail_of made result r.new.at ≡ tail_at (long_type_of ty) made r.old.bytes.now r.old.at }
 {
@@ -58,7 +56,6 @@ fn long_tail(r: &mut Reader, ty: LongHeaderType) -> Result<ProtectedHeader, Pack
 }
 
 // The version, the two connection ids, and what stands past them. The connection ids are made just before the answer.
-#[tactic(auto, unfolding(coding::specs::Words::and_then, coding::specs::Said::found_by, crate::specs::Header::long_at, crate::specs::Said::outcome_of))]
 fn long_header(s: &[u8], first: u8, versions: &[u32]) -> Result<Decoded, PacketDecodeError>
     ensures { outcome_of result ≡ long_at type_of (first / 16) (first % 16) s.now versions.now }
 {
@@ -91,7 +88,6 @@ fn long_header(s: &[u8], first: u8, versions: &[u32]) -> Result<Decoded, PacketD
     })
 }
 
-#[tactic(auto, unfolding(coding::specs::Words::and_then, coding::specs::Said::found_by, crate::specs::Header::short_at, crate::specs::Header::headed, crate::specs::Said::decoded_of, crate::specs::Said::outcome_of))]
 fn short_header(s: &[u8], first: u8, local: usize) -> Result<Decoded, PacketDecodeError>
     ensures { outcome_of result ≡ short_at (first / spin_bit) s.now local }
 {
@@ -111,7 +107,6 @@ fn short_header(s: &[u8], first: u8, local: usize) -> Result<Decoded, PacketDeco
 }
 
 // Decode a plain header, with the length of the connection ids that we hand out, and the versions that we speak.
-#[tactic(auto, unfolding(coding::specs::Words::and_then, coding::specs::Said::found_by, crate::specs::Header::first_at, crate::specs::Header::header_by, crate::specs::Said::outcome_of))]
 pub fn decode(
     s: &[u8],
     local: usize,

@@ -1,4 +1,6 @@
 // One packet after the other: a step that the caller repeats (RFC 9000, 12.2).
+#![tactic(auto, using(crate::proofs::Cases::error_says, crate::proofs::Cases::from_on), unfolding(crate::specs::Split::no_packet, crate::specs::Walk::met_on, crate::specs::Walk::step_on, crate::specs::Walk::stop_at, crate::specs::Walk::packet_step_at, crate::specs::Said::decoded_of, crate::specs::Said::partial_of, crate::specs::Said::split_of, crate::specs::Said::packet_step_of))]
+
 ghost use Rattle.std.specs.Prelude.{◌≡◌};
 ghost use Rattle.packet.specs.Walk.{packet_step_at};
 ghost use Rattle.packet.specs.Said.{packet_step_of};
@@ -21,7 +23,6 @@ pub struct StepError {
 }
 
 // The packet at a place, or none at the end of the datagram; the next step is at its end.
-#[tactic(auto, using(crate::proofs::Cases::error_says, crate::proofs::Cases::from_on), unfolding(crate::specs::Split::no_packet, crate::specs::Walk::met_on, crate::specs::Walk::step_on, crate::specs::Walk::stop_at, crate::specs::Walk::packet_step_at, crate::specs::Said::decoded_of, crate::specs::Said::partial_of, crate::specs::Said::split_of, crate::specs::Said::packet_step_of))]
 pub fn step(
     s: &[u8],
     at: usize,
