@@ -53,14 +53,14 @@ pub record Went (m : Got ℕ) (f : ℕ → ℕ → Answer ℕ) (e : ℕ) : Type 
 
 pub then_ok : (m : Got ℕ) (k : ℕ) (f : ℕ → ℕ → Answer ℕ) (e : ℕ) → and_then m (no k) f ≡ ok e → Went m f e
 unfolding and_then
-then_ok cut k f e h = let z : ◌≡◌ {A = ℕ} 0 1 = cc in absurd (omega arith)
+then_ok cut k f e h = cc
 then_ok (got v n) k f e h = record { value = v; next = n; read = refl; more = h }
 
 pub if_ok : (a b k : ℕ) (x : Answer ℕ) (e : ℕ) → (if ltb a b then no k else x) ≡ ok e → (b ≤ a) × (x ≡ ok e)
 if_ok a b k x e = go (ltb a b) refl
   where
     go : (t : Bool) → ltb a b ≡ t → (if t then no k else x) ≡ ok e → (b ≤ a) × (x ≡ ok e)
-    go true q h = let z : ◌≡◌ {A = ℕ} 0 1 = cc in absurd (omega arith)
+    go true q h = cc
     go false q h = (ltb-false _ _ q, h)
 
 -- a round more than what is left of n behind the next one is what is left of n

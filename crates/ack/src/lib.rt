@@ -96,12 +96,9 @@ fn try_step(s: &[u8], at: usize, largest: FullNumber) -> Result<AckTaken, Refusa
 pub fn ack_step(s: &[u8], at: usize, largest: FullNumber) -> AckTaken
     ensures { taken_of result ≡ ack_step s.now at largest.0 }
 {
-    match try_step(s, at, largest) {
-        Ok(taken) => taken,
-        Err(why) => AckTaken {
-            answer: Err(why),
-            largest,
-            next: at,
-        },
-    }
+    try_step(s, at, largest).unwrap_or_else(|why| AckTaken {
+        answer: Err(why),
+        largest,
+        next: at,
+    })
 }

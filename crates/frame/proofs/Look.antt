@@ -26,7 +26,7 @@ first A [] t r = r
 first A (k ∷ ks) t r = (first (A × (t ≡ k → ⊥)) ks t r).0
 
 ne : (A : Type 0) (ks : List ℕ) (t : ℕ) → Apart A ks t → (k : ℕ) → mem k ks ≡ true → t ≡ k → ⊥
-ne A [] t r k m e = let z : ◌≡◌ {A = Bool} false true = m in absurd (let y : ◌≡◌ {A = ℕ} 0 1 = cc in omega arith)
+ne A [] t r k m e = cc
 ne A (x ∷ ks) t r k m e = go (eqb k x) refl m (λ i. ne (A × (t ≡ x → ⊥)) ks t r k i e)
   where
     go : (b : Bool) → eqb k x ≡ b → cond b true (mem k ks) ≡ true → (mem k ks ≡ true → ⊥) → ⊥
@@ -76,4 +76,4 @@ module _ (ks : List ℕ) (t : ℕ) (apart : Apart Unit ks t) where
     where
       go : (b : Bool) → mem (m + n) ks ≡ b → cond b (run m n ks) false ≡ true → (run m n ks ≡ true → m + n ≤ t) → m + suc n ≤ t
       go true q e ih = let i = ih e in let j = ne Unit ks t apart (m + n) q in omega arith
-      go false q e ih = absurd (let y : ◌≡◌ {A = ℕ} 0 1 = cc in omega arith)
+      go false q e ih = cc

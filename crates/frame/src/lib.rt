@@ -47,22 +47,12 @@ pub(crate) fn read_frame(s: &[u8], start: usize) -> Result<FrameRead, InvalidFra
     requires { length s.now ≤ max_datagram }
     ensures { said_of result ≡ frame_at table s.now start }
 {
-    let Ok((number, at)) = coding::get_var(s, start) else {
-        return Err(InvalidFrame {
-            why: Refusal::UnexpectedEnd,
-            start,
-            ty: None,
-        });
-    };
+    let refused = |why, ty| InvalidFrame { why, start, ty };
+    let cut = |_| refused(Refusal::UnexpectedEnd, None);
+    let (number, at) = coding::get_var(s, start).map_err(cut)?;
     let ty = FrameType(number.0);
-    match body::read_body(s, at, ty) {
-        Ok((frame, next)) => Ok(FrameRead { frame, ty, next }),
-        Err(why) => Err(InvalidFrame {
-            why,
-            start,
-            ty: Some(ty),
-        }),
-    }
+    let (frame, next) = body::read_body(s, at, ty).map_err(|why| refused(why, Some(ty)))?;
+    Ok(FrameRead { frame, ty, next })
 }
 
 // One step of the walk over a payload, which the caller repeats from place 0 on: a frame read says where the next one starts,
@@ -70,19 +60,15 @@ pub(crate) fn read_frame(s: &[u8], start: usize) -> Result<FrameRead, InvalidFra
 pub fn step(payload: &[u8], at: usize) -> Option<Result<FrameRead, InvalidFrame>>
     ensures { step_of result ≡ step_at table payload.now at }
 {
+    let refused = |why| {
+        let ty = None;
+        Some(Err(InvalidFrame { why, start: at, ty }))
+    };
     if MAX_DATAGRAM < payload.len() {
-        return Some(Err(InvalidFrame {
-            why: Refusal::Argument,
-            start: at,
-            ty: None,
-        }));
+        return refused(Refusal::Argument);
     }
     if payload.is_empty() {
-        return Some(Err(InvalidFrame {
-            why: Refusal::NoFrames,
-            start: at,
-            ty: None,
-        }));
+        return refused(Refusal::NoFrames);
     }
     if payload.len() <= at {
         return None;
