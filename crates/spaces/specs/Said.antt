@@ -1,5 +1,5 @@
 -- What each case of the code's answers says, in document 01's numbers and values.
-use Rattle.std.specs.Prelude.{Option, Some, None, Result, Ok, Err}
+use Rattle.std.specs.Prelude.{◌≡◌, Option, Some, None, Result, Ok, Err}
 use Rattle.std.proofs.Math.Option as math
 use Rattle.coding.specs.Refusals.{number_of}
 use Rattle.coding.specs.declared.refusal.Refusal.{Refusal}
@@ -8,6 +8,9 @@ use Rattle.shared.specs.declared.kinds.FullNumber.{FullNumber}
 use Rattle.number.specs.Ends.{Packet}
 use Rattle.number.specs.Said.{ends_of}
 use Rattle.packet.specs.declared.header.SpaceId.{SpaceId}
+use Rattle.coding.specs.declared.refusal.Refusal.TheVariants as refusal
+use Rattle.number.specs.declared.ends.Space.{Space}
+use Rattle.spaces.specs.Each.{of, put}
 use Rattle.spaces.specs.Calls.{Spaces, Told, refused_all, done_all}
 use Rattle.spaces.specs.declared.Spaces.{Spaces as Record}
 
@@ -31,3 +34,12 @@ sent_all_of (Err why) r = refused_all (number_of why) (spaces_of r)
 unfoldable pub kept_all_of : Result Unit Refusal → Record → Told Spaces Unit
 kept_all_of (Ok u) r = done_all tt (spaces_of r)
 kept_all_of (Err why) r = refused_all (number_of why) (spaces_of r)
+
+-- a call of one space that takes it from s to t, in the record: where there is no space, 14; a refusal leaves the record
+abbrev pub Stored : {A : Type 0} → SpaceId → Record → Result A Refusal → Space → Record → Type 0
+Stored id x (Ok a) t y = spaces_of y ≡ put (spaces_of x) id (ends_of t)
+Stored id x (Err why) t y = y ≡ x
+
+abbrev pub Calls : {A : Type 0} → (Space → Result A Refusal → Space → Type 0) → math.Option SpaceId → Record → Result A Refusal → Record → Type 0
+Calls step math.none x said y = (said ≡ Err refusal.Argument) × (y ≡ x)
+Calls step (math.some id) x said y = (s : Space) × (t : Space) × (ends_of s ≡ of (spaces_of x) id) × step s said t × Stored id x said t y

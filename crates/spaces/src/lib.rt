@@ -3,10 +3,11 @@
 #![tactic(auto)]
 
 ghost use Rattle.std.specs.Prelude.{◌≡◌};
+ghost use Rattle.std.specs.Fn.{FnOnceReturnsAtMut};
 ghost use Rattle.number.specs.Said.{full_of, ends_of};
 ghost use Rattle.spaces.specs.Each.{of, put, space_for};
 ghost use Rattle.spaces.specs.Calls.{fresh_spaces, send_in, acknowledge_in, read_in, accept_in};
-ghost use Rattle.spaces.specs.Said.{in_of, spaces_of, sent_all_of, kept_all_of};
+ghost use Rattle.spaces.specs.Said.{in_of, spaces_of, sent_all_of, kept_all_of, Calls};
 
 use coding::Refusal;
 use number::Space;
@@ -77,30 +78,36 @@ impl Spaces {
         }
     }
 
-    // Uses up the next number of the kind's space, if it is not refused.
-    pub fn send(&mut self, kind: Kind) -> Result<(FullNumber, CutNumber), Refusal>
-        ensures { sent_all_of result self.new ≡ send_in (spaces_of self.old) kind }
+    // A call in the space of a packet's kind; where there is none, 14. What is refused leaves the record as it was.
+    fn call<T, F: FnOnce(&mut Space) -> Result<T, Refusal>>(
+        &mut self,
+        kind: Kind,
+        step: F,
+    ) -> Result<T, Refusal>
+        requires { F.IsAlwaysCallable step }
+        ensures { Calls (FnOnceReturnsAtMut F.FnOnce step) (space_for kind) self.old result self.new }
     {
         let Some(id) = space_of(kind) else {
             return Err(Refusal::Argument);
         };
         let mut space = self.get(id);
-        let sent = space.send()?;
+        let said = step(&mut space)?;
         *self = self.put(id, space);
-        Ok(sent)
+        Ok(said)
+    }
+
+    // Uses up the next number of the kind's space, if it is not refused.
+    pub fn send(&mut self, kind: Kind) -> Result<(FullNumber, CutNumber), Refusal>
+        ensures { sent_all_of result self.new ≡ send_in (spaces_of self.old) kind }
+    {
+        self.call(kind, |space| space.send())
     }
 
     // Hears that n was acknowledged, in a packet of this kind.
     pub fn acknowledge(&mut self, kind: Kind, n: FullNumber) -> Result<(), Refusal>
         ensures { kept_all_of result self.new ≡ acknowledge_in (spaces_of self.old) kind n.0 }
     {
-        let Some(id) = space_of(kind) else {
-            return Err(Refusal::Argument);
-        };
-        let mut space = self.get(id);
-        space.acknowledge(n)?;
-        *self = self.put(id, space);
-        Ok(())
+        self.call(kind, |space| space.acknowledge(n))
     }
 
     // The full number of a cut one. The record stays as it is.
@@ -117,12 +124,6 @@ impl Spaces {
     pub fn accept(&mut self, kind: Kind, n: FullNumber) -> Result<(), Refusal>
         ensures { kept_all_of result self.new ≡ accept_in (spaces_of self.old) kind n.0 }
     {
-        let Some(id) = space_of(kind) else {
-            return Err(Refusal::Argument);
-        };
-        let mut space = self.get(id);
-        space.accept(n)?;
-        *self = self.put(id, space);
-        Ok(())
+        self.call(kind, |space| space.accept(n))
     }
 }
