@@ -1,4 +1,6 @@
 // What stands around the connection ids, whatever the kind of header.
+#![tactic(auto, using(coding::proofs::Laws::length_bytes_be, crate::proofs::Laws::keeps_few, crate::proofs::Laws::length_some), unfolding(crate::specs::Encoding::length_bytes, crate::specs::Encoding::number_field))]
+
 ghost use Rattle.std.specs.Prelude.{◌≡◌, true};
 ghost use Rattle.packet.specs.Said.{option_of};
 ghost use Rattle.protect.specs.Said.{number_len_of};

@@ -1,4 +1,6 @@
 // The header that is to be written, without its connection ids and its token (packet.rs, Header; RFC 9000, 17).
+#![tactic(auto, using(crate::proofs::Laws::tagged, crate::proofs::Laws::untagged, crate::proofs::Standard::long_number, crate::proofs::Standard::long_shape_law), unfolding(coding::specs::Said::answer_of, crate::specs::Before::length_fits, crate::specs::Before::field_for))]
+
 ghost use Rattle.std.specs.Prelude.{◌≡◌, ◌+◌, ◌≤◌};
 ghost use Rattle.packet.specs.TypeBits.{bits_of};
 ghost use Rattle.packet.specs.Said.{option_of, long_type_of};

@@ -1,4 +1,6 @@
 // What is lent for a header, and the header over it.
+#![tactic(auto, using(shared::proofs::Back::cid_same, crate::proofs::Laws::lent_names, crate::proofs::Laws::lent_short), unfolding(crate::specs::Encoding::names_bytes, crate::specs::Encoding::token_bytes, coding::specs::Said::answer_of))]
+
 ghost use Rattle.std.specs.Prelude.{◌+◌, ◌≤◌, length};
 ghost use Rattle.coding.specs.Writing.{Put};
 ghost use Rattle.shared.specs.Cid.{max_cid, cid_of, long_bytes};
