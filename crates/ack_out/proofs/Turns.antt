@@ -9,7 +9,7 @@ use Rattle.coding.specs.Said.{answer_of}
 use Rattle.coding.specs.Varint.{var_bytes, var_size, var_sized, var_put}
 use Rattle.coding.specs.declared.refusal.Refusal.{Refusal}
 use Rattle.coding.specs.Writing.{Put}
-use Rattle.coding.proofs.Laws.{sized_not, length_var, length_splice, size_le, put_some}
+use Rattle.coding.proofs.Laws.{sized_not, length_var, size_le, put_some}
 use Rattle.coding.proofs.Writes.{So, so_none, so_put, put_fits}
 use Rattle.row_out.specs.Limits.{vars_bytes}
 use Rattle.ack_out.specs.Acks.{all_ranges, block_bytes}
@@ -63,12 +63,6 @@ module _ (l old : List ℕ) (at : ℕ) where
   puts_start k = record { inside = omega (arith, k.some); done = []; all = sym (blocks_steps l k); so = so_none old at }
 
   module _ (new : List ℕ) (next i : ℕ) (s : Puts l old at new next i) (room : at + length (block_bytes (all_ranges l)) ≤ length old) where
-    pub puts_length : length new ≡ length old
-    puts_length =
-        let e : length (s.done ++ step_bytes l i) ≡ length (block_bytes (all_ranges l)) = ap length s.all in
-        let f : length (s.done ++ step_bytes l i) ≡ length s.done + length (step_bytes l i) = length-append s.done (step_bytes l i) in
-        rw s.so.bytes (length_splice old s.done at (omega arith))
-
     pub puts_on : (x past : ℕ) (new' : List ℕ) → 0 < i → Is l (i - 1) x → Put (var_put x) new next past new' → Puts l old at new' past (i - 1)
     puts_on x past new' h d p =
         let e : s.done ++ (var_bytes x ++ step_bytes l (i - 1)) ≡ block_bytes (all_ranges l) = rw (← bytes_one l i x h d.0) s.all in

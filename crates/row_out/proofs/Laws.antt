@@ -4,18 +4,20 @@ use mathlib.Core.Path.{◌≡◌, refl, sym, ap, ◌∙◌}
 use mathlib.Core.List.{List, [], ◌∷◌, ◌++◌, append_assoc, append-nil}
 use mathlib.Core.Bool.{Bool, true, false}
 use Prim.Native.Nat.{ℕ, zero, suc, ◌+◌, ◌*◌, ◌≤◌, ◌<◌, ◌^◌}
+use native.Mathlib.Numerals.{add-one}
 use native.Mathlib.Omega.{arith}
 use lib.ListN.{length, take, drop, get_or, length-append, take-append-drop}
 use lib.Seq.{take-suc}
 use lib.Dec.{ltb, leb}
 use borrow.Author.Tests.{ltb-true, leb-true, leb-false, lt-ltb, le-leb, lt-leb}
 use Rattle.coding.specs.Words.{Answer, no, ok}
-use Rattle.coding.specs.Varint.{var_size, var_bytes, var_sized}
-use Rattle.coding.specs.Writing.{length_of}
+use Rattle.coding.specs.Varint.{var_size, var_bytes, var_sized, var_put}
+use Rattle.coding.specs.Writing.{length_of, Put}
 use Rattle.coding.specs.Refusals.{number_of}
 use Rattle.coding.specs.Said.{answer_of}
 use Rattle.coding.specs.declared.refusal.Refusal.{Refusal}
-use Rattle.coding.proofs.Laws.{length_var, size_le, in62_is}
+use Rattle.coding.proofs.Laws.{length_var, size_le, in62_is, put_some}
+use Rattle.coding.proofs.Writes.{So, so_put}
 use Rattle.row_out.specs.Limits.{below62, in_frame, limited, vars_bytes, vars_out}
 
 -- ---- each integer is at most 2^62 - 1
@@ -75,6 +77,16 @@ vars_part xs i =
 pub length_more : (xs : List ℕ) (i : ℕ) → i < length xs
     → length (vars_bytes (take (suc i) xs)) ≡ length (vars_bytes (take i xs)) + var_size (get_or xs i 0)
 length_more xs i h = rw (vars_more xs i h, length-append, length_var)
+
+-- one more is put behind those up to it
+pub so_more : (xs : List ℕ) (i : ℕ) {x at r next : ℕ} {old mid new : List ℕ} → x ≡ get_or xs i 0 → below62 xs ≡ true → i < length xs
+    → at + length (vars_bytes xs) ≤ length old → So old at (vars_bytes (take i xs)) r mid → Put (var_put x) mid r next new
+    → So old at (vars_bytes (take (i + 1) xs)) next new
+so_more xs i e b h room s p =
+    let x = below_at xs i b h in
+    let l : length (var_bytes (get_or xs i 0)) ≡ var_size (get_or xs i 0) = length_var (get_or xs i 0) in
+    let m = length_more xs i h in
+    rw (add-one, vars_more xs i h) (so_put s (omega (arith, l, m, vars_part xs (suc i))) (rw (e, put_some (get_or xs i 0) x) at p))
 
 -- n integers take at most 8n bytes
 pub vars_bound : (xs : List ℕ) → below62 xs ≡ true → length (vars_bytes xs) ≤ 8 * length xs

@@ -6,6 +6,8 @@ use Rattle.coding.specs.Words.{Answer}
 use Rattle.coding.specs.Once.{Once}
 use Rattle.timed.specs.Timed.{Writes}
 use Rattle.timed.specs.declared.WriteAnswer.{WriteAnswer}
+use Rattle.timed.specs.contracts.WriteAnswerFromResultUsizeRefusal.from as record_from
+use Rattle.timed.proofs.WriteAnswerFromResultUsizeRefusal.from.Reads as record_from_reads
 use Rattle.timed.specs.contracts.guobbarel_timed_read_vars as guobbarel_timed_read_vars
 use Rattle.timed.proofs.guobbarel_timed_read_vars.Reads as guobbarel_timed_read_vars_reads
 use Rattle.timed.specs.contracts.guobbarel_timed_cut as guobbarel_timed_cut
@@ -69,3 +71,7 @@ guobbarel_timed_ack_once κs a x y s t p q = one_write _ _ x y _ _ p q
 guobbarel_timed_dump_once : Once {B = WriteAnswer × List ℕ} guobbarel_timed_dump.ended guobbarel_timed_dump_reads.Post (λ κs x s. (x, s.1.0.now))
 unfolding Once
 guobbarel_timed_dump_once κs a x y s t p q = one_write _ _ x y _ _ p q
+
+record_from_once : Once record_from.ended record_from_reads.Post (λ κs x s. x)
+unfolding Once
+record_from_once κs a x y s t p q = p ∙ sym q
