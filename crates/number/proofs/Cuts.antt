@@ -17,7 +17,9 @@ use Rattle.coding.proofs.Back.{be_bytes}
 use Rattle.shared.specs.declared.kinds.CutNumber.{CutNumber}
 use Rattle.number.specs.Cutting.{cut, window_of, is_cut, bytes_for, cut_to, cut_made, cut_bytes, cut_out, cut_put, first_cut, cut_read}
 use Rattle.number.proofs.Firsts.{be_shorter}
-use Rattle.number.proofs.Windows.{le?, bytes_power, Window, window_made, Fit, bytes_fit, cut_rule}
+use Rattle.std.specs.Prelude.{Some}
+use Rattle.number.specs.Said.{fitting}
+use Rattle.number.proofs.Windows.{fitting_is, le?, bytes_power, Window, window_made, Fit, bytes_fit, cut_rule}
 
 -- ---- the cases of a cut
 
@@ -39,11 +41,12 @@ module _ (n acked : ℕ) where
     unfolding cut_made cut_to
     made_cut z = simp (le-ltb _ _ top, le-ltb _ _ down, ← e, ne_eqb _ 0 z)
 
-    -- the window of such a length
-    pub made_window : (k ≡ 0 → ⊥) → Window k
-    made_window z =
-        let f = bytes_fit (2 * (n - acked)) (λ y. z (e ∙ y)) in
-        rw e (window_made _ f.from f.high)
+-- the window of a length that was found
+pub found_window : (n acked k : ℕ) → Some k ≡ fitting (bytes_for (2 * (n - acked))) → Window k
+found_window n acked k e =
+    let is = fitting_is k (bytes_for (2 * (n - acked))) e in
+    let f = bytes_fit (2 * (n - acked)) (λ y. is.1 (is.0 ∙ y)) in
+    rw is.0 (window_made _ f.from f.high)
 
 -- what a cut that is not refused says of its number
 pub record CutIs (n acked : ℕ) (c : CutNumber) : Type 0 where

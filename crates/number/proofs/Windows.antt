@@ -7,20 +7,17 @@ use mathlib.Core.Bool.{Bool, true, false}
 use mathlib.Core.Logic.{◌⊎◌, inl, inr, ⊎_elim}
 use native.Mathlib.Nat.{two-pow-succ, pow-succ'}
 use native.Mathlib.Omega.{arith}
-use lib.Dec.{leb, ltb, eqb}
+use Rattle.std.proofs.lemmas.Bool.{cases_lt}
+use lib.Dec.{ltb, eqb}
 use lib.Pow.{pow_mono, pow-add}
-use borrow.Author.Tests.{leb-true, leb-false, ltb-true, ltb-false, eqb-false, lt-ltb, le-ltb, ne_eqb}
+use borrow.Author.Tests.{ltb-true, ltb-false, eqb-false, lt-ltb, le-ltb, ne_eqb}
 use Rattle.shared.specs.declared.kinds.CutNumber.{CutNumber}
 use Rattle.number.specs.Cutting.{window_of, is_cut, first_fit, bytes_for}
 use Rattle.number.specs.Said.{fitting}
 
 -- which of two tests holds, with the fact
 pub le? : (a b : ℕ) → (a ≤ b) ⊎ (b < a)
-le? a b = go (leb a b) refl
-  where
-    go : (t : Bool) → leb a b ≡ t → (a ≤ b) ⊎ (b < a)
-    go true e = inl (leb-true a b e)
-    go false e = inr (leb-false a b e)
+le? a b = ⊎_elim inr inl (cases_lt b a)
 
 -- a length has a window exactly if it is one of the four
 pub window_is : (k : ℕ) → 1 ≤ k → k ≤ 4 → window_of k ≡ 2 ^ (8 * k)

@@ -22,10 +22,6 @@ use Rattle.protect.proofs.Xor.{length_xor_at}
 use Rattle.protect.proofs.Parts.{first_stored}
 use Rattle.protect.proofs.Inside.{four_left}
 
--- rule 8 has passed
-pub reaches : (len at : ℕ) → has_sample len at ≡ true → at + 20 ≤ len
-reaches len at h = omega (arith, leb-true (at + 4 + 16) len h)
-
 -- ---- what can be masked
 
 -- what the two tests make of a packet that is changed
@@ -41,6 +37,7 @@ tests_as new false f = refl
 module _ (long : Bool) (packet : List ℕ) (at : ℕ) where
   pub record Maskable : Type 0 where
     pub sampled : has_sample (length packet) at ≡ true
+    pub room : at + 20 ≤ length packet
     pub form : byte_at packet 0 / long_header_form ≡ form_bit long
 
   pub maskable_is : ok tt ≡ maskable long packet at → Maskable
@@ -48,7 +45,7 @@ module _ (long : Bool) (packet : List ℕ) (at : ℕ) where
   maskable_is e = go (has_sample (length packet) at) refl (eqb (byte_at packet 0 / long_header_form) (form_bit long)) refl
     where
       go : (s : Bool) → has_sample (length packet) at ≡ s → (f : Bool) → eqb (byte_at packet 0 / long_header_form) (form_bit long) ≡ f → Maskable
-      go true s true f = record { sampled = s; form = eqb-true _ _ f }
+      go true s true f = record { sampled = s; room = omega (arith, leb-true (at + 4 + 16) (length packet) s); form = eqb-true _ _ f }
       go true s false f = let q : ok tt ≡ no 14 = e ∙ simp (s, f) in absurd cc
       go false s f g = let q : ok tt ≡ no 8 = e ∙ simp s in absurd cc
 

@@ -1,9 +1,9 @@
-use Rattle.std.proofs.Common.{length, rules, arith, ap, ◌∙◌}
+use Rattle.std.proofs.Common.{rules, arith, ap, ◌∙◌}
 use Rattle.std.proofs.lemmas.Result.{err_from_is_err_and}
 use Rattle.coding.specs.Words.{ok}
 use Rattle.coding.specs.Said.{answer_of}
 use Rattle.protect.specs.Said.{opens_of}
-use Rattle.protect.proofs.Cases.{reaches, maskable_is, changed_no, open_zero, open_no, still_left, open_done}
+use Rattle.protect.proofs.Cases.{maskable_is, changed_no, open_zero, open_no, still_left, open_done}
 use Rattle.protect.proofs.finish_numbered.Goals as goal
 
 pub returns-then-number_offset-eq0 : goal.returns-then-number_offset-eq0
@@ -19,13 +19,13 @@ returns-in_err-maskable c =
 pub bounds-packet-0 : goal.bounds-packet-0
 unfolding answer_of
 bounds-packet-0 c =
-    let h = reaches (length c.args.packet.now) c.args.number_offset (maskable_is _ _ _ c.in_ok-maskable.ensures).sampled in
+    let m = maskable_is _ _ _ c.in_ok-maskable.ensures in
     search rules
 
 pub mask_header-requires : goal.mask_header-requires
 unfolding answer_of
 mask_header-requires c =
-    let h = reaches (length c.args.packet.now) c.args.number_offset (maskable_is _ _ _ c.in_ok-maskable.ensures).sampled in
+    let m = maskable_is _ _ _ c.in_ok-maskable.ensures in
     (omega (arith, c.decode_len-len.ensures), omega arith)
 
 pub decode-number-requires : goal.decode-number-requires

@@ -1,7 +1,7 @@
-use Rattle.std.proofs.Common.{length, refl, rules, arith}
+use Rattle.std.proofs.Common.{refl, rules, arith}
 use Rattle.std.proofs.lemmas.Result.{err_from_is_err_and}
 use Rattle.coding.specs.Said.{answer_of}
-use Rattle.protect.proofs.Cases.{reaches, maskable_is, changed_no, changed_ok, protect_no, protect_done}
+use Rattle.protect.proofs.Cases.{maskable_is, changed_no, changed_ok, protect_no, protect_done}
 use Rattle.protect.proofs.protect_numbered.Goals as goal
 
 pub returns-in_err-maskable : goal.returns-in_err-maskable
@@ -13,13 +13,13 @@ returns-in_err-maskable c =
 pub bounds-packet-0 : goal.bounds-packet-0
 unfolding answer_of
 bounds-packet-0 c =
-    let h = reaches (length c.args.packet.now) c.args.number_offset (maskable_is _ _ _ c.in_ok-maskable.ensures).sampled in
+    let m = maskable_is _ _ _ c.in_ok-maskable.ensures in
     search rules
 
 pub mask_header-requires : goal.mask_header-requires
 unfolding answer_of
 mask_header-requires c =
-    let h = reaches (length c.args.packet.now) c.args.number_offset (maskable_is _ _ _ c.in_ok-maskable.ensures).sampled in
+    let m = maskable_is _ _ _ c.in_ok-maskable.ensures in
     (omega (arith, c.decode_len-n.ensures), omega arith)
 
 pub returns : goal.returns
