@@ -1,28 +1,39 @@
 -- The cases of finish and the mask step, each from the tests that lead to it.
-use Prim.Native.Nat.{ℕ, zero, suc, ◌+◌, ◌-◌, ◌/◌, ◌<◌, ◌≤◌}
+use Prim.Native.Nat.{ℕ, zero, suc, ◌+◌, ◌-◌, ◌/◌, ◌%◌, ◌<◌, ◌≤◌}
 use mathlib.Core.Path.{◌≡◌, refl, sym, ap, ◌∙◌}
 use mathlib.Core.List.{List, [], ◌∷◌}
 use mathlib.Core.Bool.{Bool, true, false, ◌&&◌}
 use mathlib.Core.Option.{Option, none, some}
 use native.Mathlib.Nat.{not-suc-le-zero}
 use native.Mathlib.Omega.{arith}
-use lib.Bits.{bit_xor}
+use lib.Bits.{bit_and, bit_xor}
 use lib.Dec.{leb, eqb}
 use lib.ListN.{length, drop, set, length-drop, length-set}
 use borrow.Author.Tests.{le-ltb, eq-eqb, ne_eqb, leb-true, eqb-true}
 use Rattle.coding.specs.Words.{Answer, no, ok, max_datagram}
 use Rattle.coding.specs.Bytes.{byte_at}
-use Rattle.shared.specs.FirstByte.{long_header_form}
+use Rattle.shared.specs.FirstByte.{long_header_form, long_reserved_bits, short_reserved_bits, key_phase_bit}
+use Rattle.shared.specs.declared.kinds.CutNumber.{CutNumber}
 use Rattle.number.specs.Cutting.{tag_length, first_cut}
 use Rattle.protect.specs.Protection.{xor, xor_at, first_mask, number_mask, masked, applied, removed}
 use Rattle.std.specs.Prelude.{if◌then◌else◌}
 use Rattle.protect.specs.Tests.{in_size, has_sample, maskable, form_bit, number_fits, least_header, header_tests}
 use Rattle.protect.specs.Steps.{read_off, left_by, Changed, Opened, opened_by, opened, open_at, Opens, finish_at, protect_at, mask_number, mask_at}
+use Rattle.protect.specs.Said.{opened_of}
+use Rattle.protect.specs.declared.Finished.TheVariants as fin
 use Rattle.protect.proofs.Xor.{length_xor_at}
 use Rattle.protect.proofs.Parts.{first_stored}
 use Rattle.protect.proofs.Inside.{four_left}
 
 -- ---- what can be masked
+
+-- a test that a function of its own made, by what the code saw of it
+pub told : {A : Type 0} {r t v : A} → r ≡ t → r ≡ v → t ≡ v
+told {r} e h = sym e ∙ h
+
+-- rule 8 has passed
+pub reaches : {r : Bool} (len at : ℕ) → r ≡ has_sample len at → r ≡ true → at + 20 ≤ len
+reaches {r} len at e h = omega (arith, leb-true (at + 4 + 16) len (told e h))
 
 -- what the two tests make of a packet that is changed
 abbrev then_ok : Answer (Unit {0}) → List ℕ → Answer (List ℕ)
@@ -45,7 +56,7 @@ module _ (long : Bool) (packet : List ℕ) (at : ℕ) where
   maskable_is e = go (has_sample (length packet) at) refl (eqb (byte_at packet 0 / long_header_form) (form_bit long)) refl
     where
       go : (s : Bool) → has_sample (length packet) at ≡ s → (f : Bool) → eqb (byte_at packet 0 / long_header_form) (form_bit long) ≡ f → Maskable
-      go true s true f = record { sampled = s; room = omega (arith, leb-true (at + 4 + 16) (length packet) s); form = eqb-true _ _ f }
+      go true s true f = record { sampled = s; room = reaches (length packet) at refl s; form = eqb-true _ _ f }
       go true s false f = let q : ok tt ≡ no 14 = e ∙ simp (s, f) in absurd cc
       go false s f g = let q : ok tt ≡ no 8 = e ∙ simp s in absurd cc
 
@@ -74,6 +85,16 @@ first_masked long mask (suc at) n [] h k = absurd (not-suc-le-zero k)
 first_masked long mask (suc at) n (b ∷ l) h k = refl
 
 -- ---- finish
+
+-- what is said of a long and of a short packet
+module _ (first : ℕ) (number : CutNumber) where
+  pub said_long : opened_of (fin.Long number (eqb (bit_and first long_reserved_bits) 0)) ≡ opened_by true first number
+  unfolding opened_of opened_by
+  said_long = refl
+
+  pub said_short : opened_of (fin.Short number (eqb (bit_and first short_reserved_bits) 0) (eqb (first / key_phase_bit % 2) 1)) ≡ opened_by false first number
+  unfolding opened_of opened_by
+  said_short = refl
 
 -- the mask takes none of the number's bytes away
 pub still_left : (packet ms : List ℕ) (at b : ℕ) {new : List ℕ} → has_sample (length packet) at ≡ true → new ≡ xor_at at ms (set packet 0 b) → at + 4 ≤ length new
