@@ -21,32 +21,23 @@ pub flag_small : (b : Bool) → ltb 1 (flag b) ≡ false
 flag_small true = refl
 flag_small false = refl
 
+kinds : (k : Kind) → (kind_at (kind_number k) ≡ k) × (long_kind (kind_number k) ≡ long_header k) × (numbered_kind (kind_number k) ≡ numbered_of k)
+unfolding kind_at long_kind numbered_kind
+kinds kind.Initial = (refl, refl, refl)
+kinds kind.ZeroRtt = (refl, refl, refl)
+kinds kind.Handshake = (refl, refl, refl)
+kinds kind.Retry = (refl, refl, refl)
+kinds kind.Short = (refl, refl, refl)
+kinds kind.VersionNegotiate = (refl, refl, refl)
+
 pub kind_back : (k : Kind) → kind_at (kind_number k) ≡ k
-unfolding kind_at
-kind_back kind.Initial = refl
-kind_back kind.ZeroRtt = refl
-kind_back kind.Handshake = refl
-kind_back kind.Retry = refl
-kind_back kind.Short = refl
-kind_back kind.VersionNegotiate = refl
+kind_back k = (kinds k).0
 
 pub long_back : (k : Kind) → long_kind (kind_number k) ≡ long_header k
-unfolding long_kind
-long_back kind.Initial = refl
-long_back kind.ZeroRtt = refl
-long_back kind.Handshake = refl
-long_back kind.Retry = refl
-long_back kind.Short = refl
-long_back kind.VersionNegotiate = refl
+long_back k = (kinds k).1
 
 pub numbered_back : (k : Kind) → numbered_kind (kind_number k) ≡ numbered_of k
-unfolding numbered_kind
-numbered_back kind.Initial = refl
-numbered_back kind.ZeroRtt = refl
-numbered_back kind.Handshake = refl
-numbered_back kind.Retry = refl
-numbered_back kind.Short = refl
-numbered_back kind.VersionNegotiate = refl
+numbered_back k = (kinds k).2
 
 -- past 5 there is no kind, and no space
 pub no_space : (k : ℕ) → ltb 5 k ≡ true → space_for (kind_at k) ≡ none

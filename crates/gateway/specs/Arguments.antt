@@ -1,7 +1,9 @@
 -- Arguments and answers as numbers: a flag is 0 or 1 (frame/specs/Table `flag`), a kind of header 0 Initial, 1 0-RTT,
 -- 2 Handshake, 3 Retry, 4 short, 5 Version Negotiation (as packet's kind_of has them). What is past these is 14.
-use Rattle.std.specs.Prelude.{ℕ, ◌≡◌, Bool, true, false, not, ◌||◌, ltb, eqb, if◌then◌else◌, Result, Ok, Err}
+use Rattle.std.specs.Prelude.{ℕ, ◌≡◌, Bool, true, false, not, ◌||◌, ltb, eqb, if◌then◌else◌, Result, Ok, Err, Some, None}
+use Rattle.std.specs.Prelude.{Option as Maybe}
 use Rattle.std.proofs.Math.Option.{Option, none, some}
+use Rattle.coding.specs.Refusals.{number_of}
 use Rattle.coding.specs.declared.refusal.Refusal.{Refusal}
 use Rattle.coding.specs.declared.refusal.Refusal.TheVariants as refusal
 use Rattle.protect.specs.declared.Kind.{Kind}
@@ -36,6 +38,11 @@ kind_number kind.VersionNegotiate = 5
 -- a number's length, of which 0 says that there is no number
 abbrev pub number_given : ℕ → Option ℕ
 number_given len = if eqb len 0 then none else some len
+
+-- a record's number of a refusal; 0 is none
+abbrev pub code_of : Maybe Refusal → ℕ
+code_of None = 0
+code_of (Some why) = number_of why
 
 -- an argument x is taken for what it says, or it is outside its rule
 abbrev pub Takes : {A B : Type 0} → (A → B) → B → Bool → Result A Refusal → Type 0

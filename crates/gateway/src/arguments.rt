@@ -1,8 +1,8 @@
-// Arguments that are numbers, and what they are taken for.
+// C's numbers: what an argument is taken for, and what a refusal is answered as.
 ghost use Rattle.std.specs.Prelude.{◌≡◌, length, not, ltb, eqb};
 ghost use Rattle.frame.specs.Table.{flag};
 ghost use Rattle.protect.specs.Said.{number_len_of};
-ghost use Rattle.gateway.specs.Arguments.{kind_number, number_given, Takes};
+ghost use Rattle.gateway.specs.Arguments.{kind_number, number_given, code_of, Takes};
 ghost use Rattle.gateway.specs.Numbers.{StepTaken};
 
 use crate::numbers::NumberStep;
@@ -10,7 +10,7 @@ use coding::Refusal;
 use protect::Kind;
 use shared::{CutNumber, FullNumber};
 
-// The kind by its number.
+// The kind by its number; not a TryFrom, since neither type is this crate's.
 pub(crate) fn kind_of(number: u8) -> Result<Kind, Refusal>
     ensures { Takes kind_number number (ltb 5 number) result }
 {
@@ -64,4 +64,11 @@ pub(crate) fn number_len(len: usize) -> Option<usize>
     ensures { number_len_of result ≡ number_given len }
 {
     (len != 0).then_some(len)
+}
+
+// The number of a refusal; 0 is none.
+pub(crate) fn code(why: Option<Refusal>) -> u8
+    ensures { result ≡ code_of why }
+{
+    why.map_or(0, |why| why.number())
 }

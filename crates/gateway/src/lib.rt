@@ -1,9 +1,10 @@
 // The surface that the gateway's host calls: seven functions on numbers and byte slices, each over a proved crate. Every
 // argument is checked; an answer is a record by value, its refusal first; a refusal changes no lent byte. `gateway_c` exports
-// them to C; include/guobbarel.h says the same to a C compiler, and what a caller owes.
+// them to C; include/guobbarel.h says the same to a C compiler, and what a caller owes. Parameters, kinds, steps, flags and
+// refusals are C's numbers here, and so in what these functions hand them to.
 #![tactic(auto, using(crate::proofs::Taken::taken, crate::proofs::Answered::changes, crate::proofs::HeaderWrites::puts_said), unfolding(coding::specs::Said::answer_of))]
 
-mod arguments; // arguments.rt: arguments that are numbers, and what they are taken for
+mod arguments; // arguments.rt: C's numbers, and what they are taken for
 mod headers; // headers.rt: a header with its Length
 mod numbers; // numbers.rt: the number ends, in and out
 mod packets; // packets.rt: what a header and what finish say, as records
@@ -16,10 +17,12 @@ ghost use Rattle.gateway.specs.Numbers.{number_for};
 ghost use Rattle.gateway.specs.Headers.{WritesHeader};
 
 pub use gateway_frame::{FrameAnswer, FrameValue, Span};
+use packets::Extent;
 pub use records::{
     HeaderAnswer, HeaderGiven, NumberAnswer, NumberEnds, NumberSpaces, SampleAnswer, SplitAnswer,
     UnmaskAnswer,
 };
+use shared::{CutNumber, FullNumber};
 
 // The packet at a place of a datagram; the next step is at its end. `local_cid_len` is the length of the CIDs that we hand out,
 // `versions` what we speak.
@@ -37,7 +40,7 @@ pub fn guobbarel_split(
             at,
             packet::step(datagram, at, local_cid_len, versions, grease),
         ),
-        Err(why) => packets::no_packet(why.number(), at),
+        Err(why) => packets::no_packet(Some(why), at),
     }
 }
 
@@ -57,9 +60,11 @@ pub fn guobbarel_unmask(
 ) -> UnmaskAnswer
     ensures { UnmasksPacket kind packet.old number_offset mask.now result packet.new }
 {
-    let len = packet.len();
-    let answer = packets::unmask(kind, packet, number_offset, mask);
-    packets::unmask_record(answer, number_offset, len)
+    let extent = Extent {
+        len: packet.len(),
+        number_offset,
+    };
+    extent.record(packets::unmask(kind, packet, number_offset, mask))
 }
 
 // The frame at a place of a payload; the next step is at `next`.
@@ -84,9 +89,10 @@ pub fn guobbarel_number_step(
 ) -> NumberAnswer
     ensures { result ≡ number_for step kind spaces number number_len number_value }
 {
-    match numbers::step(step, kind, spaces, number, number_len, number_value) {
+    let cut = CutNumber(number_len, number_value);
+    match numbers::step(step, kind, spaces, FullNumber(number), cut) {
         Ok(answer) => answer,
-        Err(why) => numbers::no_number(why.number(), spaces),
+        Err(why) => numbers::no_number(Some(why), spaces),
     }
 }
 

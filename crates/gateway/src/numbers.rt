@@ -8,6 +8,7 @@ ghost use Rattle.number.specs.Ends.{base_of};
 ghost use Rattle.number.specs.Said.{so_far_of, ends_of};
 ghost use Rattle.spaces.specs.Each.{of, put};
 ghost use Rattle.spaces.specs.Calls.{lifted};
+ghost use Rattle.gateway.specs.Arguments.{code_of};
 ghost use Rattle.gateway.specs.Numbers.{so_far, has_of, ends_in, ends_out, unkept, each_in, each_out, numbers, answer_with, step_said, record_of, step_of, number_for};
 
 use crate::arguments;
@@ -21,18 +22,6 @@ fn so_far(has: u8, n: u64) -> Option<FullNumber>
     ensures { so_far_of result ≡ so_far has n }
 {
     (has != 0).then_some(FullNumber(n))
-}
-
-fn has(largest: Option<FullNumber>) -> u8
-    ensures { result ≡ has_of (so_far_of largest) }
-{
-    u8::from(largest.is_some())
-}
-
-fn number_of(largest: Option<FullNumber>) -> u64
-    ensures { result ≡ base_of (so_far_of largest) }
-{
-    largest.map_or(0, |n| n.0)
 }
 
 // A step, with what it takes.
@@ -67,10 +56,10 @@ impl From<Space> for NumberEnds {
         } = space;
         NumberEnds {
             next: next.0,
-            acked: number_of(acked),
-            largest: number_of(largest),
-            has_acked: has(acked),
-            has_largest: has(largest),
+            acked: acked.map_or(0, |n| n.0),
+            largest: largest.map_or(0, |n| n.0),
+            has_acked: u8::from(acked.is_some()),
+            has_largest: u8::from(largest.is_some()),
         }
     }
 }
@@ -85,7 +74,7 @@ impl NumberEnds {
 }
 
 impl NumberSpaces {
-    // The ends of a space.
+    // The ends of a space, as `spaces::Spaces` has them; this record is C's.
     fn get(self, id: SpaceId) -> NumberEnds
         ensures { result ≡ of (each_in self) id }
     {
@@ -116,11 +105,11 @@ impl NumberSpaces {
 }
 
 // The record after a step that says no number, or a refusal.
-pub(crate) fn no_number(refusal: u8, spaces: NumberSpaces) -> NumberAnswer
-    ensures { result ≡ answer_with refusal (numbers 0 0 0) (each_in spaces) }
+pub(crate) fn no_number(why: Option<Refusal>, spaces: NumberSpaces) -> NumberAnswer
+    ensures { result ≡ answer_with (code_of why) (numbers 0 0 0) (each_in spaces) }
 {
     NumberAnswer {
-        refusal,
+        refusal: arguments::code(why),
         number_value: 0,
         number_len: 0,
         number: 0,
@@ -128,7 +117,7 @@ pub(crate) fn no_number(refusal: u8, spaces: NumberSpaces) -> NumberAnswer
     }
 }
 
-// A step in one space.
+// A step in one space. Acknowledge and accept are alike but for the call; a closure for it would say that in more words.
 fn step_in(id: SpaceId, spaces: NumberSpaces, step: NumberStep) -> Result<NumberAnswer, Refusal>
     ensures { step_said result spaces ≡ record_of (lifted (step_of step) (some id) (each_in spaces)) }
 {
@@ -146,19 +135,19 @@ fn step_in(id: SpaceId, spaces: NumberSpaces, step: NumberStep) -> Result<Number
         }
         NumberStep::Acknowledge(number) => {
             space.acknowledge(number)?;
-            Ok(no_number(0, spaces.with(id, space)))
+            Ok(no_number(None, spaces.with(id, space)))
         }
         // reading leaves the record as it came
         NumberStep::Read(cut) => {
             let number = space.read(cut)?;
             Ok(NumberAnswer {
                 number: number.0,
-                ..no_number(0, spaces)
+                ..no_number(None, spaces)
             })
         }
         NumberStep::Accept(number) => {
             space.accept(number)?;
-            Ok(no_number(0, spaces.with(id, space)))
+            Ok(no_number(None, spaces.with(id, space)))
         }
     }
 }
@@ -168,11 +157,10 @@ pub(crate) fn step(
     step: u8,
     kind: u8,
     spaces: NumberSpaces,
-    number: u64,
-    len: usize,
-    value: u32,
+    number: FullNumber,
+    cut: CutNumber,
 ) -> Result<NumberAnswer, Refusal>
-    ensures { step_said result spaces ≡ number_for step kind spaces number len value }
+    ensures { step_said result spaces ≡ number_for step kind spaces number.0 cut.0 cut.1 }
 {
     let Some(id) = spaces::space_of(arguments::kind_of(kind)?) else {
         return Err(Refusal::Argument);
@@ -180,10 +168,5 @@ pub(crate) fn step(
     if spaces.get(id).is_unkept() {
         return Err(Refusal::Argument);
     }
-    let cut = CutNumber(len, value);
-    step_in(
-        id,
-        spaces,
-        arguments::step_of(step, FullNumber(number), cut)?,
-    )
+    step_in(id, spaces, arguments::step_of(step, number, cut)?)
 }

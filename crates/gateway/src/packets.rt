@@ -9,14 +9,14 @@ ghost use Rattle.coding.specs.Said.{answer_of};
 ghost use Rattle.packet.specs.Said.{header_of, decoded_of, error_of, packet_step_of};
 ghost use Rattle.protect.specs.Said.{sample_of, opened_of, finished_of};
 ghost use Rattle.protect.specs.Steps.{Changed, finished, only_done};
-ghost use Rattle.gateway.specs.Arguments.{long_kind, numbered_kind};
+ghost use Rattle.gateway.specs.Arguments.{long_kind, numbered_kind, code_of};
 ghost use Rattle.gateway.specs.Packets.{said_numbers, split_record, no_packet_record, step_record, no_sample, sample_record, sample_for, header_span, payload_span, not_opened, opened_with, unmask_record, unmask_at, mask_for};
 
 use crate::arguments;
 use crate::records::{SampleAnswer, SplitAnswer, UnmaskAnswer};
 use coding::{Place, Refusal};
 use gateway_frame::Span;
-use packet::{LongType, ProtectedHeader, StepError, Stepped};
+use packet::{Decoded, LongType, ProtectedHeader, StepError, Stepped};
 use protect::Finished;
 use shared::CutNumber;
 
@@ -30,7 +30,7 @@ fn span(p: Place) -> Span
     Span { start, len }
 }
 
-// What a header alone has.
+// What a header alone has, in the record's numbers.
 #[derive(Clone, Copy)]
 pub(crate) struct HeaderNumbers {
     refusal: u8,
@@ -105,12 +105,12 @@ fn long_cids(dst: u8, src: u8) -> (Span, Span)
     (to, from)
 }
 
-// No packet: kind 6. The refusal is 0 at the end of the datagram.
-pub(crate) fn no_packet(refusal: u8, start: usize) -> SplitAnswer
-    ensures { result ≡ no_packet_record refusal start }
+// No packet: kind 6. At the end of the datagram there is no refusal.
+pub(crate) fn no_packet(why: Option<Refusal>, start: usize) -> SplitAnswer
+    ensures { result ≡ no_packet_record (code_of why) start }
 {
     SplitAnswer {
-        refusal,
+        refusal: arguments::code(why),
         kind: 6,
         spin: 0,
         random: 0,
@@ -128,15 +128,10 @@ pub(crate) fn no_packet(refusal: u8, start: usize) -> SplitAnswer
 fn packet_record(x: Stepped) -> SplitAnswer
     ensures { result ≡ split_record x.packet.start x.packet.len (decoded_of x.plain_header) }
 {
-    let plain = x.plain_header;
-    let HeaderNumbers {
-        refusal,
-        kind,
-        spin,
-        random,
-        length,
-        token,
-    } = HeaderNumbers::from(plain.header);
+    let Stepped {
+        packet,
+        plain_header: plain,
+    } = x;
     let (dst_cid, src_cid) = if plain.has_long_header() {
         long_cids(plain.dst_cid.len, plain.src_cid.len)
     } else {
@@ -144,14 +139,28 @@ fn packet_record(x: Stepped) -> SplitAnswer
         let len = usize::from(plain.dst_cid.len);
         (Span { start: 1, len }, NOWHERE)
     };
+    let Decoded {
+        header,
+        version,
+        number_offset,
+        ..
+    } = plain;
+    let HeaderNumbers {
+        refusal,
+        kind,
+        spin,
+        random,
+        length,
+        token,
+    } = HeaderNumbers::from(header);
     SplitAnswer {
         refusal,
         kind,
         spin,
         random,
-        version: plain.version,
-        packet: span(x.packet),
-        number_offset: plain.number_offset,
+        version,
+        packet: span(packet),
+        number_offset,
         length,
         token,
         dst_cid,
@@ -163,18 +172,16 @@ fn packet_record(x: Stepped) -> SplitAnswer
 fn refused_record(x: StepError) -> SplitAnswer
     ensures { result ≡ split_record x.start 0 (error_of x.why) }
 {
-    let why = x.why;
+    let StepError { start, why } = x;
     let refusal = why.refusal();
-    let none = no_packet(refusal.number(), x.start);
+    let version = why.version();
+    let none = no_packet(Some(refusal), start);
     if refusal != Refusal::Version {
-        return SplitAnswer {
-            version: why.version(),
-            ..none
-        };
+        return SplitAnswer { version, ..none };
     }
     let (dst_cid, src_cid) = long_cids(why.dst_cid().len, why.src_cid().len);
     SplitAnswer {
-        version: why.version(),
+        version,
         dst_cid,
         src_cid,
         ..none
@@ -187,16 +194,16 @@ pub(crate) fn step_record(at: usize, x: Result<Option<Stepped>, StepError>) -> S
 {
     match x {
         Ok(Some(x)) => packet_record(x),
-        Ok(None) => no_packet(0, at),
+        Ok(None) => no_packet(None, at),
         Err(x) => refused_record(x),
     }
 }
 
-fn no_sample(refusal: u8) -> SampleAnswer
-    ensures { result ≡ no_sample refusal }
+fn no_sample(why: Option<Refusal>) -> SampleAnswer
+    ensures { result ≡ no_sample (code_of why) }
 {
     SampleAnswer {
-        refusal,
+        refusal: arguments::code(why),
         sample: NOWHERE,
     }
 }
@@ -210,8 +217,8 @@ impl From<Result<Option<Place>, Refusal>> for SampleAnswer {
                 refusal: 0,
                 sample: span(place),
             },
-            Ok(None) => no_sample(0),
-            Err(why) => no_sample(why.number()),
+            Ok(None) => no_sample(None),
+            Err(why) => no_sample(Some(why)),
         }
     }
 }
@@ -227,31 +234,18 @@ pub(crate) fn sample_place(
     protect::sample_place(arguments::kind_of(kind)?, packet, number_offset)
 }
 
-// The header of a packet of len bytes, up to and with its number of k bytes, and what follows it.
-fn parts(len: usize, number_offset: usize, k: usize) -> (Span, Span)
-    ensures { (result.0 ≡ header_span len number_offset k) × (result.1 ≡ payload_span len number_offset k) }
-{
-    if len < number_offset || len - number_offset < k {
-        return (NOWHERE, NOWHERE);
-    }
-    let start = number_offset + k;
-    let header = Span {
-        start: 0,
-        len: start,
-    };
-    let payload = Span {
-        start,
-        len: len - start,
-    };
-    (header, payload)
+// A packet of len bytes, and where its number begins.
+#[derive(Clone, Copy)]
+pub(crate) struct Extent {
+    pub(crate) len: usize,
+    pub(crate) number_offset: usize,
 }
 
-// A packet that has no number, with refusal 0, or that is refused.
-fn not_opened(refusal: u8) -> UnmaskAnswer
-    ensures { result ≡ not_opened refusal }
+fn not_opened(why: Option<Refusal>) -> UnmaskAnswer
+    ensures { result ≡ not_opened (code_of why) }
 {
     UnmaskAnswer {
-        refusal,
+        refusal: arguments::code(why),
         reserved_clear: 0,
         key_phase: 0,
         number_value: 0,
@@ -261,57 +255,69 @@ fn not_opened(refusal: u8) -> UnmaskAnswer
     }
 }
 
-// A packet of len bytes with a number.
-fn opened(
-    number: CutNumber,
-    clear: bool,
-    phase: bool,
-    number_offset: usize,
-    len: usize,
-) -> UnmaskAnswer
-    ensures { result ≡ opened_with number.0 number.1 clear phase number_offset len }
-{
-    let CutNumber(number_len, number_value) = number;
-    let (header, payload) = parts(len, number_offset, number_len);
-    UnmaskAnswer {
-        refusal: 0,
-        reserved_clear: u8::from(clear),
-        key_phase: u8::from(phase),
-        number_value,
-        number_len,
-        header,
-        payload,
+impl Extent {
+    // The header, up to and with a number of k bytes, and what follows it.
+    fn parts(self, k: usize) -> (Span, Span)
+        ensures { (result.0 ≡ header_span self.len self.number_offset k) × (result.1 ≡ payload_span self.len self.number_offset k) }
+    {
+        let Extent { len, number_offset } = self;
+        if len < number_offset || len - number_offset < k {
+            return (NOWHERE, NOWHERE);
+        }
+        let start = number_offset + k;
+        let header = Span {
+            start: 0,
+            len: start,
+        };
+        let payload = Span {
+            start,
+            len: len - start,
+        };
+        (header, payload)
     }
-}
 
-// What finish says of a packet of len bytes.
-pub(crate) fn unmask_record(
-    f: Result<Option<Finished>, Refusal>,
-    number_offset: usize,
-    len: usize,
-) -> UnmaskAnswer
-    ensures { result ≡ unmask_record number_offset len (finished_of f) }
-{
-    match f {
-        Ok(
-            Some(
-                Finished::Long {
-                    number,
-                    reserved_clear,
-                },
-            ),
-        ) => opened(number, reserved_clear, false, number_offset, len),
-        Ok(
-            Some(
-                Finished::Short {
-                    number,
-                    reserved_clear,
-                    key_phase,
-                },
-            ),
-        ) => opened(number, reserved_clear, key_phase, number_offset, len),
-        Ok(None) => not_opened(0),
-        Err(why) => not_opened(why.number()),
+    // With a number.
+    fn opened(self, number: CutNumber, clear: bool, phase: bool) -> UnmaskAnswer
+        ensures { result ≡ opened_with number.0 number.1 clear phase self.number_offset self.len }
+    {
+        let CutNumber(number_len, number_value) = number;
+        let (header, payload) = self.parts(number_len);
+        UnmaskAnswer {
+            refusal: 0,
+            reserved_clear: u8::from(clear),
+            key_phase: u8::from(phase),
+            number_value,
+            number_len,
+            header,
+            payload,
+        }
+    }
+
+    // What finish says of it.
+    pub(crate) fn record(self, f: Result<Option<Finished>, Refusal>) -> UnmaskAnswer
+        ensures { result ≡ unmask_record self.number_offset self.len (finished_of f) }
+    {
+        match f {
+            Ok(
+                Some(
+                    Finished::Long {
+                        number,
+                        reserved_clear,
+                    },
+                ),
+            ) => self.opened(number, reserved_clear, false),
+            Ok(
+                Some(
+                    Finished::Short {
+                        number,
+                        reserved_clear,
+                        key_phase,
+                    },
+                ),
+            ) => self.opened(number, reserved_clear, key_phase),
+            Ok(None) => not_opened(None),
+            Err(why) => not_opened(Some(why)),
+        }
     }
 }
 
