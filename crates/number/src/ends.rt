@@ -38,7 +38,7 @@ fn larger(largest: Option<FullNumber>, n: FullNumber) -> Option<FullNumber>
 }
 
 impl Space {
-    // Nothing is sent, acknowledged or accepted yet.
+    // Nothing is sent, acknowledged or accepted yet. By the documents' word, and no Default: that would say no more.
     pub fn fresh() -> Space
         ensures { ends_of result ≡ fresh_ends }
     {

@@ -17,8 +17,8 @@ use coding::{MAX_NUMBER, NUMBER_END, Refusal};
 pub use ends::Space;
 use shared::{CutNumber, FullNumber};
 
-// How many values k bytes have; none for a k that is not 1 to 4. A match, because a shift by 8 k was measured: it takes half as
-// long again to read a number back.
+// How many values k bytes have; none for a k that is not 1 to 4, and 0 is that count. A match, because a shift by 8 k was
+// measured: it takes half as long again to read a number back.
 fn window(k: usize) -> u64
     ensures { result ≡ window_of k }
 {

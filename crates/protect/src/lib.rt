@@ -246,7 +246,8 @@ fn least_header(number: Option<usize>, has_length: bool) -> usize
     if has_length { 1 + k + 2 } else { 1 + k }
 }
 
-// The header's tests of the Length step and of the mask step, for a packet of len bytes; where one fails, 14.
+// The header's tests of the Length step and of the mask step, for a packet of len bytes; where one fails, 14. (What a header was
+// written with comes one by one, here and in mask, as over the C interface.)
 pub fn header_tests(header_len: usize, number: Option<usize>, has_length: bool, len: usize) -> bool
     ensures { result ≡ header_tests header_len (number_len_of number) has_length len }
 {

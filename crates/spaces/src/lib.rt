@@ -15,6 +15,7 @@ use packet::SpaceId;
 use protect::Kind;
 use shared::{CutNumber, FullNumber};
 
+// The C interface has its like laid out field by field, flags for Option (gateway's NumberSpaces).
 #[derive(Clone, Copy, PartialEq, Eq)]
 pub struct Spaces {
     pub initial: Space,
@@ -35,7 +36,7 @@ pub fn space_of(kind: Kind) -> Option<SpaceId>
 }
 
 impl Spaces {
-    // Nothing is sent, acknowledged or accepted yet.
+    // Nothing is sent, acknowledged or accepted yet. Named as that of one space.
     pub fn fresh() -> Spaces
         ensures { spaces_of result ≡ fresh_spaces }
     {
