@@ -1,9 +1,6 @@
 // Prints the packets of one datagram, read on standard input (document 01, "The dump program").
 #![tactic(auto)]
 
-ghost use Rattle.std.specs.Prelude.{◌≤◌, length, IfOk};
-
-use coding::Place;
 use std::io;
 use std::io::{Print, Read, Stdin};
 
@@ -13,28 +10,26 @@ const DATAGRAM: usize = 65528;
 // Room for the text of every datagram of that length: four times as many bytes, and 64.
 const TEXT: usize = 262176;
 
-// Reads until buf is full or the input ends, and answers how many bytes were read.
-fn read_full(mut from: Stdin, buf: &mut [u8]) -> io::Result<usize>
-    ensures { IfOk result (λ n. n ≤ length buf.new) }
-{
+// Reads until buf is full or the input ends, and answers what was read.
+fn read_full(mut from: Stdin, buf: &mut [u8]) -> io::Result<&[u8]> {
     let mut n = 0;
+    // read_exact would refuse a shorter input
     while n < buf.len() {
         let more = from.read(&mut buf[n..])?;
         if more == 0 {
-            return Ok(n);
+            break;
         }
         n += more;
     }
-    Ok(n)
+    Ok(&buf[..n])
 }
 
 fn main(rt: HostRuntime) -> io::Result<()> {
-    let mut datagram = [0u8; DATAGRAM];
-    let n = read_full(rt.stdin(), &mut datagram)?;
+    let mut room = [0u8; DATAGRAM];
+    let datagram = read_full(rt.stdin(), &mut room)?;
     let mut text = [0u8; TEXT];
-    let Ok(len) = dump_text::dump(&datagram[..n], &mut text) else {
+    let Ok(len) = dump_text::dump(datagram, &mut text) else {
         return Ok(());
     };
-    rt.stdout()
-        .write_all(coding::part(&text, Place { start: 0, len }))
+    rt.stdout().write_all(&text[..len])
 }

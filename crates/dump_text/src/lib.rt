@@ -15,7 +15,8 @@ use packet::{LongType, ProtectedHeader, Stepped};
 // No line is longer than this, whatever the numbers in it.
 const MAX_LINE: usize = 80;
 
-// A number and the character after it.
+// A number and the character after it. Puts take a buffer and a place, as those of coding, and the text is byte for byte that
+// of the definition, so nothing here is a Display.
 fn put_word(buf: &mut [u8], at: usize, x: u64, after: u8) -> usize
     requires { at + length (number_then x after) ≤ length buf.old }
     ensures { Put (number_then x after) buf.old at result buf.new }
@@ -100,6 +101,7 @@ fn place_after(anew: bool, q: usize) -> usize
 }
 
 // Puts the lines of a datagram one after the other, or each at the start of the buffer, and answers how long they are together.
+// One loop for both: as a closure, where the next line goes would need the same proof twice.
 fn put_lines(s: &[u8], buf: &mut [u8], anew: bool) -> usize
     requires { Roomy anew s.now (length buf.old) }
     ensures { AllPut s.now anew buf.old result buf.new }

@@ -30,7 +30,8 @@ impl PacketDecodeError {
         }
     }
 
-    // The destination Connection ID of a packet whose version is not listed, else the empty one.
+    // The destination Connection ID of a packet whose version is not listed, else the empty one. It and the source one are two
+    // fields: one function for both would have to be told which.
     pub fn dst_cid(self) -> ConnectionId
         ensures { result ≡ (error_of self).dst }
     {
@@ -50,7 +51,7 @@ impl PacketDecodeError {
         }
     }
 
-    // The version that is not listed, else 0.
+    // The version that is not listed, else 0, as a header that was refused had it.
     pub fn version(self) -> u32
         ensures { result ≡ (error_of self).version }
     {

@@ -67,7 +67,7 @@ impl LongHeaderType {
         }
     }
 
-    // And back: the two type bits, by the version.
+    // And back: the two type bits, by the version too, so this is no From.
     pub fn bits(self, version: u32) -> u8
         ensures { (result ≡ bits_of version (long_type_of self)) × (result ≤ 3) }
     {

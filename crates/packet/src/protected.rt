@@ -106,7 +106,8 @@ fn short_header(s: &[u8], first: u8, local: usize) -> Result<Decoded, PacketDeco
     })
 }
 
-// Decode a plain header, with the length of the connection ids that we hand out, and the versions that we speak.
+// Decode a plain header, with the length of the connection ids that we hand out, and the versions that we speak. The
+// parameters are those of the Rust, and of the C surface.
 pub fn decode(
     s: &[u8],
     local: usize,

@@ -109,7 +109,8 @@ fn length_into(header_len: usize, k: usize, packet: &mut [u8]) -> Result<(), Ref
     Ok(())
 }
 
-// The Length step: number and payload are counted, by what the header was written with.
+// The Length step: number and payload are counted, by what the header was written with. Its three numbers stand apart, as in
+// the mask step of protect, below this crate, and as C hands them over.
 pub fn set_length(
     header_len: usize,
     number: Option<usize>,

@@ -15,4 +15,3 @@ overflow_add-next c =
     let e = rw c.in-Ok-Some.field-0-is at c.in-Ok-Some.ensures in
     let m = step_inside a.s.now 0 (1 ∷ []) false a.at p.start p.len (rw (← e)) in
     omega arith
-
