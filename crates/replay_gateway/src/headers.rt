@@ -1,6 +1,6 @@
 // header_write and mask.
-use cases::{line, record};
-use coding::Place;
+use cases::line::Out;
+use cases::record;
 use gateway::{HeaderAnswer, HeaderGiven};
 
 // The packet number is the numbers of the record's first part.
@@ -18,18 +18,19 @@ fn header_in(rec: &[u8]) -> HeaderGiven {
     }
 }
 
-fn put_header(a: HeaderAnswer, work: &[u8], n: usize, out: &mut [u8], p: usize) -> usize {
-    let ns = [
-        a.has_length as u64,
-        a.header_len as u64,
-        a.number_len as u64,
-    ];
-    let q = line::nums(out, p, a.refusal as u64, &ns);
-    line::and_part(out, q, work, Place { start: 0, len: n })
+fn put_header(a: HeaderAnswer, out: &mut Out) {
+    out.nums(
+        u64::from(a.refusal),
+        &[
+            u64::from(a.has_length),
+            a.header_len as u64,
+            a.number_len as u64,
+        ],
+    );
 }
 
 // The lent buffer, the record's last part, is laid into work.
-pub(crate) fn write(rec: &[u8], work: &mut [u8], out: &mut [u8], p: usize) -> usize {
+pub(crate) fn write(rec: &[u8], work: &mut [u8], out: &mut Out) {
     let n = record::lay(work, record::bytes(rec, 4));
     let a = gateway::guobbarel_header_write(
         header_in(rec),
@@ -39,10 +40,11 @@ pub(crate) fn write(rec: &[u8], work: &mut [u8], out: &mut [u8], p: usize) -> us
         record::numbers_of(rec).n5 as usize,
         &mut work[..n],
     );
-    put_header(a, work, n, out, p)
+    put_header(a, out);
+    out.and_hex(&work[..n]);
 }
 
-pub(crate) fn mask(rec: &[u8], work: &mut [u8], out: &mut [u8], p: usize) -> usize {
+pub(crate) fn mask(rec: &[u8], work: &mut [u8], out: &mut Out) {
     let ns = record::numbers_of(rec);
     let n = record::lay(work, record::bytes(rec, 1));
     let refusal = gateway::guobbarel_mask(
@@ -52,6 +54,6 @@ pub(crate) fn mask(rec: &[u8], work: &mut [u8], out: &mut [u8], p: usize) -> usi
         &mut work[..n],
         record::bytes(rec, 0),
     );
-    let q = line::num(out, p, refusal as u64);
-    line::and_part(out, q, work, Place { start: 0, len: n })
+    out.num(u64::from(refusal));
+    out.and_hex(&work[..n]);
 }

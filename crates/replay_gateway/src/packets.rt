@@ -1,53 +1,45 @@
 // split, sample_place and unmask.
-use cases::{line, record};
-use coding::{Place, part};
+use crate::and_bytes;
+use cases::line::Out;
+use cases::record;
 use gateway::{SampleAnswer, SplitAnswer, UnmaskAnswer};
+use gateway_frame::Span;
 
 // What stands from a place on.
 fn rest(s: &[u8], at: usize) -> &[u8] {
-    if s.len() < at {
-        return &s[..0];
-    }
-    &s[at..]
+    s.get(at..).unwrap_or(&[])
 }
 
 // All places but the packet's are counted from its first byte.
-fn put_split(a: SplitAnswer, s: &[u8], out: &mut [u8], p: usize) -> usize {
-    let packet = a.packet;
-    let token = a.token;
-    let dst = a.dst_cid;
-    let src = a.src_cid;
-    let ns = [
-        a.kind as u64,
-        a.spin as u64,
-        a.random as u64,
-        a.version as u64,
-        packet.start as u64,
-        packet.len as u64,
-        a.number_offset as u64,
-        a.length,
-        token.start as u64,
-        token.len as u64,
-        dst.start as u64,
-        dst.len as u64,
-        src.start as u64,
-        src.len as u64,
-    ];
-    let q = line::nums(out, p, a.refusal as u64, &ns);
-    let from = rest(s, packet.start);
-    let q = and_part(from, 0, packet.len, out, q);
-    let q = and_part(from, token.start, token.len, out, q);
-    let q = and_part(from, dst.start, dst.len, out, q);
-    and_part(from, src.start, src.len, out, q)
-}
-
-fn and_part(s: &[u8], start: usize, len: usize, out: &mut [u8], p: usize) -> usize {
-    line::and_part(out, p, s, Place { start, len })
+fn put_split(a: SplitAnswer, s: &[u8], out: &mut Out) {
+    let Span { start, len } = a.packet;
+    out.nums(
+        u64::from(a.refusal),
+        &[
+            u64::from(a.kind),
+            u64::from(a.spin),
+            u64::from(a.random),
+            u64::from(a.version),
+            start as u64,
+            len as u64,
+            a.number_offset as u64,
+            a.length,
+        ],
+    );
+    let parts = [a.token, a.dst_cid, a.src_cid];
+    for span in parts {
+        out.and_nums(&[span.start as u64, span.len as u64]);
+    }
+    let from = rest(s, start);
+    and_bytes(from, Span { start: 0, len }, out);
+    for span in parts {
+        and_bytes(from, span, out);
+    }
 }
 
 // There is room for more versions than the rule allows.
-pub(crate) fn split(rec: &[u8], out: &mut [u8], p: usize) -> usize {
-    let mut list = [0u32; 32];
+pub(crate) fn split(rec: &[u8], out: &mut Out) {
+    let mut list = [0; 32];
     let n = record::words(record::bytes(rec, 0), &mut list);
     let ns = record::numbers_of(rec);
     let s = record::bytes(rec, 1);
@@ -58,44 +50,44 @@ pub(crate) fn split(rec: &[u8], out: &mut [u8], p: usize) -> usize {
         &list[..n],
         record::byte(ns.n2),
     );
-    put_split(a, s, out, p)
+    put_split(a, s, out);
 }
 
-fn put_sample(a: SampleAnswer, s: &[u8], out: &mut [u8], p: usize) -> usize {
-    let sample = a.sample;
-    let ns = [sample.start as u64, sample.len as u64];
-    let q = line::nums(out, p, a.refusal as u64, &ns);
-    and_part(s, sample.start, sample.len, out, q)
+fn put_sample(a: SampleAnswer, s: &[u8], out: &mut Out) {
+    let Span { start, len } = a.sample;
+    out.nums(u64::from(a.refusal), &[start as u64, len as u64]);
+    and_bytes(s, a.sample, out);
 }
 
-pub(crate) fn sample(rec: &[u8], out: &mut [u8], p: usize) -> usize {
+pub(crate) fn sample(rec: &[u8], out: &mut Out) {
     let ns = record::numbers_of(rec);
     let s = record::bytes(rec, 0);
     let a = gateway::guobbarel_sample_place(record::byte(ns.n0), s, ns.n1 as usize);
-    put_sample(a, s, out, p)
+    put_sample(a, s, out);
 }
 
-fn put_unmask(a: UnmaskAnswer, packet: &[u8], out: &mut [u8], p: usize) -> usize {
-    let header = a.header;
-    let payload = a.payload;
-    let ns = [
-        a.reserved_clear as u64,
-        a.key_phase as u64,
-        a.number_value as u64,
-        a.number_len as u64,
-        header.start as u64,
-        header.len as u64,
-        payload.start as u64,
-        payload.len as u64,
-    ];
-    let q = line::nums(out, p, a.refusal as u64, &ns);
-    let q = and_part(packet, header.start, header.len, out, q);
-    let q = and_part(packet, payload.start, payload.len, out, q);
-    line::and_hex(out, q, packet)
+fn put_unmask(a: UnmaskAnswer, packet: &[u8], out: &mut Out) {
+    out.nums(
+        u64::from(a.refusal),
+        &[
+            u64::from(a.reserved_clear),
+            u64::from(a.key_phase),
+            u64::from(a.number_value),
+            a.number_len as u64,
+        ],
+    );
+    let parts = [a.header, a.payload];
+    for span in parts {
+        out.and_nums(&[span.start as u64, span.len as u64]);
+    }
+    for span in parts {
+        and_bytes(packet, span, out);
+    }
+    out.and_hex(packet);
 }
 
 // The packet is laid into work.
-pub(crate) fn unmask(rec: &[u8], work: &mut [u8], out: &mut [u8], p: usize) -> usize {
+pub(crate) fn unmask(rec: &[u8], work: &mut [u8], out: &mut Out) {
     let ns = record::numbers_of(rec);
     let n = record::lay(work, record::bytes(rec, 1));
     let a = gateway::guobbarel_unmask(
@@ -104,5 +96,5 @@ pub(crate) fn unmask(rec: &[u8], work: &mut [u8], out: &mut [u8], p: usize) -> u
         ns.n1 as usize,
         record::bytes(rec, 0),
     );
-    put_unmask(a, part(work, Place { start: 0, len: n }), out, p)
+    put_unmask(a, &work[..n], out);
 }
