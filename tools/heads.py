@@ -13,7 +13,7 @@ import os
 import re
 
 HEAD = re.compile(r'(?:\b(pub)\b(\s*\([^()]*\))?\s+)?(?:extern\s+"C"\s+)?\bfn\s+(\w+)')
-CLAUSE = re.compile(r'\b(ensures|requires)(?:\s+after)?\s*$')
+CLAUSE = re.compile(r'\b(ensures|requires)(?:\s+\w+)?\s*$')  # a clause may have a name
 BLOCK = re.compile(r'(?m)^(pub\s+)?(impl|trait)\b')
 
 # path: the names of module, type and function, as the proofs' folders have them; public: a caller outside may call it; written: `pub`
