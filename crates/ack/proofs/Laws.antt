@@ -1,7 +1,7 @@
 -- Laws of the scan.
-use Rattle.std.specs.Prelude.{if◌then◌else◌, Result, Ok}
+use Rattle.std.specs.Prelude.{if◌then◌else◌, Result}
 use Rattle.std.specs.Result.{IsErr, IsErrAnd}
-use mathlib.Core.Path.{◌≡◌, refl, sym, ap}
+use mathlib.Core.Path.{◌≡◌, refl, ap}
 use mathlib.Core.List.{List}
 use mathlib.Core.Bool.{Bool, true, false}
 use Prim.Native.Nat.{ℕ, zero, suc, ◌+◌, ◌-◌, ◌≤◌, ◌<◌, ◌^◌}
@@ -12,10 +12,7 @@ use borrow.Author.Tests.{ltb-false, lt-leb, le-ltb}
 use Rattle.coding.specs.Words.{Got, cut, got, and_then, Answer, no, ok}
 use Rattle.coding.specs.Refusals.{number_of}
 use Rattle.coding.specs.Varint.{var_at}
-use Rattle.coding.specs.Said.{var_of}
-use Rattle.coding.specs.declared.varint.VarInt.{VarInt}
-use Rattle.coding.specs.declared.refusal.UnexpectedEnd.{UnexpectedEnd}
-use Rattle.coding.proofs.Laws.{Octets, var_below, var_inside}
+use Rattle.coding.proofs.Laws.{var_inside}
 use Rattle.coding.proofs.Rules.{if_all, then_all}
 use Rattle.coding.specs.declared.refusal.Refusal.{Refusal}
 use Rattle.ack.specs.Scan.{rounds, scan_at, scanned}
@@ -24,15 +21,10 @@ use Rattle.ack.specs.Said.{round_then, tried_of}
 use Rattle.ack.specs.declared.AckTaken.{AckTaken}
 use Rattle.ack.proofs.Tries.{out}
 
--- an integer that was read is below 2^62
-pub var_small : (s : List ℕ) (at : ℕ) (r : Result (VarInt × ℕ) UnexpectedEnd) (v : VarInt) (n : ℕ) → Octets s → var_of r ≡ var_at s at → r ≡ Ok (v, n) → v.0 < 2 ^ 62
-unfolding var_of
-var_small s at r v n o p q = var_below s at v.0 n o (sym (rw q at p))
-
 -- the exit of a `?` in a round, and in a step
-pub exit_round : (r : Result (ℕ × ℕ) Refusal) (why : Refusal) (more : ℕ → ℕ → Answer ℕ) → IsErr r × IsErrAnd r (λ e. e ≡ why) → round_then r more ≡ no (number_of why)
+pub exit_round : (r : Result ℕ Refusal) (why : Refusal) (next : ℕ) (more : ℕ → ℕ → Answer ℕ) → IsErr r × IsErrAnd r (λ e. e ≡ why) → round_then r next more ≡ no (number_of why)
 unfolding round_then
-exit_round r why more i = rw (out r why i)
+exit_round r why next more i = rw (out r why i)
 
 pub exit_tried : (r : Result AckTaken Refusal) (why : Refusal) (at largest : ℕ) → IsErr r × IsErrAnd r (λ e. e ≡ why) → tried_of r at largest ≡ unmoved (number_of why) at largest
 unfolding tried_of

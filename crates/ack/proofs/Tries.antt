@@ -4,12 +4,10 @@ use Rattle.std.proofs.Common.{Continue, Break}
 use Rattle.std.specs.Result.{IsErr, IsErrAnd, result_from_control_flow}
 use Rattle.std.proofs.lemmas.Result.{err_from_is_err_and}
 use mathlib.Core.Path.{◌≡◌}
-use Prim.Native.Nat.{ℕ}
-use Rattle.coding.specs.Words.{cut, no}
+use Rattle.coding.specs.Words.{no}
 use Rattle.coding.specs.Refusals.{number_of}
-use Rattle.coding.specs.Said.{read_of, answer_of}
+use Rattle.coding.specs.Said.{answer_of}
 use Rattle.coding.specs.declared.refusal.Refusal.{Refusal}
-use Rattle.coding.specs.declared.refusal.UnexpectedEnd.{UnexpectedEnd}
 
 -- where the `?` of an answer r goes on, r was a value; where it leaves, an error
 module _ {A E : Type 0} (r : Result A E) (b : _) (g : r ≡ result_from_control_flow b) where
@@ -26,7 +24,3 @@ out r e i = let p = err_from_is_err_and r i.1 in rw (p.1, p.2)
 pub exit_answer : {A : Type 0} (r : Result A Refusal) (why : Refusal) → IsErr r × IsErrAnd r (λ e. e ≡ why) → answer_of r ≡ no (number_of why)
 unfolding answer_of
 exit_answer r why i = rw (out r why i)
-
-pub exit_read : {A : Type 0} (r : Result (A × ℕ) UnexpectedEnd) (end : UnexpectedEnd) → IsErr r × IsErrAnd r (λ e. e ≡ end) → read_of r ≡ cut
-unfolding read_of
-exit_read r end i = rw (out r end i)

@@ -8,9 +8,9 @@ use Rattle.ack.specs.Step.{Step, range, end, refused, Taken, unmoved}
 use Rattle.ack.specs.declared.AckTaken.{AckTaken}
 
 -- a round, and what follows it from its place and below its smallest number
-unfoldable pub round_then : Result (ℕ × ℕ) Refusal → (ℕ → ℕ → Answer ℕ) → Answer ℕ
-round_then (Ok (smallest, next)) more = more next smallest
-round_then (Err why) more = no (number_of why)
+unfoldable pub round_then : Result ℕ Refusal → ℕ → (ℕ → ℕ → Answer ℕ) → Answer ℕ
+round_then (Ok smallest) next more = more next smallest
+round_then (Err why) next more = no (number_of why)
 
 unfoldable pub range_step_of : Result (Option (FullNumber × FullNumber)) Refusal → Step
 range_step_of (Ok (Some (smallest, largest))) = range (record { smallest = smallest.0; largest = largest.0 })

@@ -1,6 +1,6 @@
 // ACK blocks (frame.rs, scan_ack_blocks and AckIter's step; RFC 9000, section 19.3.1). The scan ends by its bytes, whatever
 // count is declared: each round reads two integers, and the first that is cut ends it.
-#![tactic(auto, using(crate::proofs::Tries::went, crate::proofs::Tries::left, crate::proofs::Tries::exit_answer, crate::proofs::Laws::exit_round, crate::proofs::Laws::exit_tried, crate::proofs::Laws::none, crate::proofs::Laws::rounds_left), unfolding(crate::specs::Scan::rounds, crate::specs::Scan::scan_at, crate::specs::Scan::scanned, crate::specs::Step::ack_step, crate::specs::Step::unmoved, crate::specs::Said::round_then, crate::specs::Said::range_step_of, crate::specs::Said::taken_of, crate::specs::Said::tried_of, coding::specs::Words::and_then, coding::specs::Said::var_of, coding::specs::Said::answer_of))]
+#![tactic(auto, using(crate::proofs::Tries::went, crate::proofs::Tries::left, crate::proofs::Tries::exit_answer, crate::proofs::Laws::exit_round, crate::proofs::Laws::exit_tried, crate::proofs::Laws::none, crate::proofs::Laws::rounds_left), unfolding(crate::specs::Scan::rounds, crate::specs::Scan::scan_at, crate::specs::Scan::scanned, crate::specs::Step::ack_step, crate::specs::Step::unmoved, crate::specs::Said::round_then, crate::specs::Said::range_step_of, crate::specs::Said::taken_of, crate::specs::Said::tried_of, coding::specs::Words::and_then, coding::specs::Said::found_by, coding::specs::Said::answer_of))]
 
 ghost use Rattle.std.specs.Prelude.{◌≡◌, ℕ, suc};
 ghost use Rattle.coding.specs.Said.{answer_of};
@@ -8,7 +8,7 @@ ghost use Rattle.ack.specs.Scan.{rounds, scanned};
 ghost use Rattle.ack.specs.Step.{ack_step};
 ghost use Rattle.ack.specs.Said.{round_then, taken_of, tried_of};
 
-use coding::{MAX_DATAGRAM, NUMBER_END, Refusal};
+use coding::{MAX_DATAGRAM, NUMBER_END, Reader, Refusal};
 use shared::FullNumber;
 
 // A step's answer, which is a range's smallest and largest number, or none where no byte is left; and where the reader then
@@ -20,27 +20,28 @@ pub struct AckTaken {
     pub next: usize,
 }
 
-// What a gap and a block below smallest leave, and the place past them.
-fn scan_round(s: &[u8], at: usize, smallest: u64) -> Result<(u64, usize), Refusal>
-    ensures { (n : ℕ) → round_then result (rounds s.now n) ≡ rounds s.now (suc n) at smallest }
+// What a gap and a block below smallest leave.
+fn scan_round(r: &mut Reader, smallest: u64) -> Result<u64, Refusal>
+    ensures reads { (n : ℕ) → round_then result r.new.at (rounds r.old.bytes.now n) ≡ rounds r.old.bytes.now (suc n) r.old.at smallest }
+    ensures bytes { r.new.bytes ≡ r.old.bytes }
 {
-    let (gap, mid) = coding::get_var(s, at)?; // the bytes end the scan, whatever the count
+    let gap = r.get_var()?; // the bytes end the scan, whatever the count
     let largest = smallest.checked_sub(gap.0 + 2).ok_or(Refusal::Malformed)?;
-    let (block, past) = coding::get_var(s, mid)?;
+    let block = r.get_var()?;
     let low = largest.checked_sub(block.0).ok_or(Refusal::Malformed)?;
-    Ok((low, past))
+    Ok(low)
 }
 
 // n rounds below low.
 fn scan_rounds(s: &[u8], at: usize, low: u64, n: u64) -> Result<usize, Refusal>
     ensures { answer_of result ≡ rounds s.now n at low }
 {
+    let mut r = Reader { bytes: s, at };
     let mut smallest = low;
-    let mut p = at;
     for _ in 0..n {
-        (smallest, p) = scan_round(s, p, smallest)?;
+        smallest = scan_round(&mut r, smallest)?;
     }
-    Ok(p)
+    Ok(r.at)
 }
 
 // Validates the first block and exactly n more ACK ranges at a cursor, and answers the place past them.
@@ -50,9 +51,10 @@ pub fn scan_ack_blocks(s: &[u8], at: usize, largest: FullNumber, n: u64) -> Resu
     if MAX_DATAGRAM < s.len() || NUMBER_END <= largest.0 || NUMBER_END <= n {
         return Err(Refusal::Argument);
     }
-    let (first, after) = coding::get_var(s, at)?;
+    let mut r = Reader { bytes: s, at };
+    let first = r.get_var()?;
     let low = largest.0.checked_sub(first.0).ok_or(Refusal::Malformed)?;
-    scan_rounds(s, after, low, n)
+    scan_rounds(s, r.at, low, n)
 }
 
 // The range whose largest number is given, at a cursor: its block and, if bytes are left, the gap after it.
@@ -69,26 +71,26 @@ fn try_step(s: &[u8], at: usize, largest: FullNumber) -> Result<AckTaken, Refusa
             next: at,
         });
     }
-    let (block, mid) = coding::get_var(s, at)?;
+    let mut r = Reader { bytes: s, at };
+    let block = r.get_var()?;
     let smallest = largest.0.checked_sub(block.0).ok_or(Refusal::Malformed)?;
     let answer = Ok(Some((FullNumber(smallest), largest)));
-    if s.len() <= mid {
+    if s.len() <= r.at {
         return Ok(AckTaken {
             answer,
             largest,
-            next: mid,
+            next: r.at,
         });
     }
-    let (gap, next) = coding::get_var(s, mid)?;
+    let gap = r.get_var()?;
     let low = smallest.checked_sub(gap.0 + 2).ok_or(Refusal::Malformed)?;
-    if s.len() <= next {
+    if s.len() <= r.at {
         return Err(Refusal::UnexpectedEnd);
     }
-    let largest = FullNumber(low);
     Ok(AckTaken {
         answer,
-        largest,
-        next,
+        largest: FullNumber(low),
+        next: r.at,
     })
 }
 

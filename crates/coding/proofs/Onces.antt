@@ -94,7 +94,7 @@ encode_once κs a x y s t p q = one_written _ _ x y _ _ p q
 
 get_var_once : Once {B = Result VarInt UnexpectedEnd × Reader} get_var.ended get_var_reads.Post (λ κs x s. (x, s.0.now))
 unfolding Once
-get_var_once κs a x y s t p q = reads_one var_value (λ v w e i. record { 0 = e i }) _ _ _ _ x y p q
+get_var_once κs a x y s t p q = reads_one var_value (λ v w e i. record { 0 = e i }) _ _ _ _ x y p.0 q.0
 
 take_once : Once {B = Result Place UnexpectedEnd × Reader} take.ended take_reads.Post (λ κs x s. (x, s.0.now))
 unfolding Once

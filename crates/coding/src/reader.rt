@@ -63,7 +63,8 @@ impl<'a> Reader<'a> {
 
     // The integer, in any of its forms.
     pub fn get_var(&mut self) -> Result<VarInt, UnexpectedEnd>
-        ensures { Reads var_value (var_at self.old.bytes.now self.old.at) self.old result self.new }
+        ensures reads { Reads var_value (var_at self.old.bytes.now self.old.at) self.old result self.new }
+        ensures below { IfOk result (λ x. x.0 < 2 ^ 62) }
     {
         let Reader { bytes, at } = *self;
         if bytes.len() <= at {

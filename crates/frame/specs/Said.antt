@@ -64,13 +64,14 @@ frame_said (frame.AckFrequency x) =
 frame_said frame.ImmediateAck = said 0x1f []
 frame_said frame.HandshakeDone = said 0x1e []
 
-unfoldable pub field_of : Result (Place × ℕ) Refusal → Read Place
-field_of (Ok (p, n)) = done p n
-field_of (Err why) = refuse (number_of why)
+-- what was read up to `next`
+unfoldable pub field_of : Result Place Refusal → ℕ → Read Place
+field_of (Ok p) next = done p next
+field_of (Err why) next = refuse (number_of why)
 
-unfoldable pub body_of : Result (Frame × ℕ) Refusal → Read Said
-body_of (Ok (f, n)) = done (frame_said f) n
-body_of (Err why) = refuse (number_of why)
+unfoldable pub body_of : Result Frame Refusal → ℕ → Read Said
+body_of (Ok f) next = done (frame_said f) next
+body_of (Err why) next = refuse (number_of why)
 
 -- three integers: the ECN counts
 unfoldable pub counts_at : List ℕ → ℕ → Got EcnCounts
@@ -80,14 +81,14 @@ counts_at s at =
     and_then (var_at s q) cut (λ ce n.
     got (record { ect0 = ect0; ect1 = ect1; ce = ce }) n)))
 
--- the answer of a frame that is made of a value which was read, or of two, one after the other
-abbrev pub MadeOf : {A : Type 0} → (A → Frame → Type 0) → Got A → Result (Frame × ℕ) Refusal → Type 0
-MadeOf makes (got a n) r = (f : Frame) × makes a f × (r ≡ Ok (f, n))
-MadeOf makes cut r = r ≡ Err refusal.UnexpectedEnd
+-- the answer of a frame that is made of a value which was read up to `past`, or of two, one after the other
+abbrev pub MadeOf : {A : Type 0} → (A → Frame → Type 0) → Got A → Result Frame Refusal → ℕ → Type 0
+MadeOf makes (got a n) r past = (f : Frame) × makes a f × (r ≡ Ok f) × (past ≡ n)
+MadeOf makes cut r past = r ≡ Err refusal.UnexpectedEnd
 
-abbrev pub MadeOfTwo : {A B : Type 0} → (A → B → Frame → Type 0) → Got A → (ℕ → Got B) → Result (Frame × ℕ) Refusal → Type 0
-MadeOfTwo makes (got a n) next r = MadeOf (makes a) (next n) r
-MadeOfTwo makes cut next r = r ≡ Err refusal.UnexpectedEnd
+abbrev pub MadeOfTwo : {A B : Type 0} → (A → B → Frame → Type 0) → Got A → (ℕ → Got B) → Result Frame Refusal → ℕ → Type 0
+MadeOfTwo makes (got a n) next r past = MadeOf (makes a) (next n) r past
+MadeOfTwo makes cut next r past = r ≡ Err refusal.UnexpectedEnd
 
 unfoldable pub said_of : Result FrameRead InvalidFrame → FrameOutcome
 said_of (Ok r) = taken r.ty.0 (frame_said r.frame) r.next

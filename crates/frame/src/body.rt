@@ -1,11 +1,11 @@
 // What follows a frame's type: a small function for each kind that is more than its values in a row, and one decision over the
 // type's number (frame.rs, try_next).
-#![tactic(auto, using(ack::proofs::Tries::exit_read, crate::proofs::Rules::exit_body, crate::proofs::Rules::var_if_law, crate::proofs::Rules::data_if_law, ack::proofs::Tries::went, ack::proofs::Tries::left), unfolding(crate::specs::Table::frame_body_at, crate::specs::Table::table, crate::specs::Format::fields_at, crate::specs::Format::field_at, crate::specs::Format::then_read, crate::specs::Format::or_nothing, crate::specs::Said::counts_at, crate::specs::Said::body_of, crate::specs::Said::field_of, coding::specs::Words::and_then, coding::specs::Said::var_of, coding::specs::Said::read_of, coding::specs::Said::number_read))]
+#![tactic(auto, using(crate::proofs::Rules::exit_found, crate::proofs::Rules::exit_body, crate::proofs::Rules::var_if_law, crate::proofs::Rules::data_if_law, ack::proofs::Tries::went, ack::proofs::Tries::left), unfolding(crate::specs::Table::frame_body_at, crate::specs::Table::table, crate::specs::Format::fields_at, crate::specs::Format::field_at, crate::specs::Format::then_read, crate::specs::Format::or_nothing, crate::specs::Said::counts_at, crate::specs::Said::body_of, crate::specs::Said::field_of, coding::specs::Words::and_then, coding::specs::Said::found_by))]
 
 ghost use Rattle.std.specs.Prelude.{◌≡◌, [], ◌≤◌, length};
 ghost use Rattle.coding.specs.Words.{max_datagram};
 ghost use Rattle.coding.specs.Reading.{fixed_at};
-ghost use Rattle.coding.specs.Said.{read_of};
+ghost use Rattle.coding.specs.Said.{found_by};
 ghost use Rattle.coding.specs.Varint.{var_at};
 ghost use Rattle.shared.specs.Said.{dir_bit};
 ghost use Rattle.frame.specs.Format.{or_nothing, fields_at, bytes_at};
@@ -17,129 +17,123 @@ use crate::kinds::{
     Ack, AckFrequency, ApplicationClose, Close, ConnectionClose, Crypto, Datagram, Frame,
     NewConnectionId, NewToken, ResetStream, StopSending, Stream,
 };
-use coding::{Place, Refusal, UnexpectedEnd};
+use coding::{Place, Reader, Refusal, UnexpectedEnd};
 use ecn::EcnCounts;
 use shared::{Dir, FrameType, FullNumber, StreamId, types};
 
-// The frame and the place past it, or why it is refused.
-type Body = Result<(Frame, usize), Refusal>;
+// The frame, or why it is refused.
+type Body = Result<Frame, Refusal>;
 
 // A frame of one integer.
-fn of_var<F: FnOnce(u64) -> Frame>(s: &[u8], at: usize, frame: F) -> Body
+fn of_var<F: FnOnce(u64) -> Frame>(r: &mut Reader, frame: F) -> Body
     requires { F.IsAlwaysCallable frame }
-    ensures { MadeOf (F.post frame) (var_at s.now at) result }
+    ensures { MadeOf (F.post frame) (var_at r.old.bytes.now r.old.at) result r.new.at }
 {
-    let (x, next) = coding::get_var(s, at)?;
-    Ok((frame(x.0), next))
+    let x = r.get_var()?;
+    Ok(frame(x.0))
 }
 
 // A frame of eight bytes, a number.
-fn of_num64<F: FnOnce(u64) -> Frame>(s: &[u8], at: usize, frame: F) -> Body
+fn of_num64<F: FnOnce(u64) -> Frame>(r: &mut Reader, frame: F) -> Body
     requires { F.IsAlwaysCallable frame }
-    ensures { MadeOf (F.post frame) (fixed_at 8 s.now at) result }
+    ensures { MadeOf (F.post frame) (fixed_at 8 r.old.bytes.now r.old.at) result r.new.at }
 {
-    let (x, next) = coding::get::<u64>(s, at)?;
-    Ok((frame(x), next))
+    let x = r.get::<u64>()?;
+    Ok(frame(x))
 }
 
 // A frame of a stream's id and an integer.
-fn of_id<F: FnOnce(StreamId, u64) -> Frame>(s: &[u8], at: usize, frame: F) -> Body
+fn of_id<F: FnOnce(StreamId, u64) -> Frame>(r: &mut Reader, frame: F) -> Body
     requires { F.IsAlwaysCallable frame }
-    ensures { MadeOfTwo (λ id. F.post frame (record { 0 = id })) (var_at s.now at) (var_at s.now) result }
+    ensures { MadeOfTwo (λ id. F.post frame (record { 0 = id })) (var_at r.old.bytes.now r.old.at) (var_at r.old.bytes.now) result r.new.at }
 {
-    let (id, p) = coding::get_var(s, at)?;
-    let (x, next) = coding::get_var(s, p)?;
-    Ok((frame(StreamId(id.0), x.0), next))
+    let id = r.get_var()?;
+    let x = r.get_var()?;
+    Ok(frame(StreamId(id.0), x.0))
 }
 
 // A frame of an integer and of bytes with a length.
-fn of_bytes<F: FnOnce(u64, Place) -> Frame>(s: &[u8], at: usize, frame: F) -> Body
+fn of_bytes<F: FnOnce(u64, Place) -> Frame>(r: &mut Reader, frame: F) -> Body
     requires { F.IsAlwaysCallable frame }
-    ensures { MadeOfTwo (F.post frame) (var_at s.now at) (bytes_at s.now) result }
+    ensures { MadeOfTwo (F.post frame) (var_at r.old.bytes.now r.old.at) (bytes_at r.old.bytes.now) result r.new.at }
 {
-    let (x, p) = coding::get_var(s, at)?;
-    let (bytes, next) = field::take_len(s, p)?;
-    Ok((frame(x.0, bytes), next))
+    let x = r.get_var()?;
+    let bytes = field::take_len(r)?;
+    Ok(frame(x.0, bytes))
 }
 
 // The ECN counts that end an ACK.
-fn ecn_counts(s: &[u8], at: usize) -> Result<(EcnCounts, usize), UnexpectedEnd>
-    ensures { read_of result ≡ counts_at s.now at }
+fn ecn_counts(r: &mut Reader) -> Result<EcnCounts, UnexpectedEnd>
+    ensures finds { found_by (λ c. c) result r.new.at ≡ counts_at r.old.bytes.now r.old.at }
+    ensures bytes { r.new.bytes ≡ r.old.bytes }
 {
-    let (ect0, p) = coding::get_var(s, at)?;
-    let (ect1, q) = coding::get_var(s, p)?;
-    let (ce, next) = coding::get_var(s, q)?;
-    let counts = EcnCounts {
+    let ect0 = r.get_var()?;
+    let ect1 = r.get_var()?;
+    let ce = r.get_var()?;
+    Ok(EcnCounts {
         ect0: ect0.0,
         ect1: ect1.0,
         ce: ce.0,
-    };
-    Ok((counts, next))
+    })
 }
 
-fn ack(s: &[u8], at: usize, ecn: bool) -> Body
-    requires { length s.now ≤ max_datagram }
-    ensures { body_of result ≡ fields_at 0x02 (ack_fields ecn) s.now at [] }
+fn ack(r: &mut Reader, ecn: bool) -> Body
+    requires { length r.old.bytes.now ≤ max_datagram }
+    ensures { body_of result r.new.at ≡ fields_at 0x02 (ack_fields ecn) r.old.bytes.now r.old.at [] }
 {
-    let (largest, p) = coding::get_var(s, at)?;
-    let (delay, q) = coding::get_var(s, p)?;
+    let largest = r.get_var()?;
+    let delay = r.get_var()?;
     let largest = FullNumber(largest.0);
-    let (additional, t) = field::ack_blocks(s, q, largest)?;
-    let (ecn, next) = if ecn {
-        let (counts, next) = ecn_counts(s, t)?;
-        (Some(counts), next)
-    } else {
-        (None, t)
-    };
+    let additional = field::ack_blocks(r, largest)?;
+    let ecn = if ecn { Some(ecn_counts(r)?) } else { None };
     let frame = Ack {
         largest,
         delay: delay.0,
         additional,
         ecn,
     };
-    Ok((Frame::Ack(frame), next))
+    Ok(Frame::Ack(frame))
 }
 
-fn reset_stream(s: &[u8], at: usize) -> Body
-    ensures { body_of result ≡ frame_body_at table 0x04 s.now at }
+fn reset_stream(r: &mut Reader) -> Body
+    ensures { body_of result r.new.at ≡ frame_body_at table 0x04 r.old.bytes.now r.old.at }
 {
-    let (id, p) = coding::get_var(s, at)?;
-    let (error_code, q) = coding::get_var(s, p)?;
-    let (final_offset, next) = coding::get_var(s, q)?;
+    let id = r.get_var()?;
+    let error_code = r.get_var()?;
+    let final_offset = r.get_var()?;
     let frame = ResetStream {
         id: StreamId(id.0),
         error_code: error_code.0,
         final_offset: final_offset.0,
     };
-    Ok((Frame::ResetStream(frame), next))
+    Ok(Frame::ResetStream(frame))
 }
 
-fn stop_sending(s: &[u8], at: usize) -> Body
-    ensures { body_of result ≡ frame_body_at table 0x05 s.now at }
+fn stop_sending(r: &mut Reader) -> Body
+    ensures { body_of result r.new.at ≡ frame_body_at table 0x05 r.old.bytes.now r.old.at }
 {
     of_id(
-        s,
-        at,
+        r,
         |id, error_code| Frame::StopSending(StopSending { id, error_code }),
     )
 }
 
-fn new_token(s: &[u8], at: usize) -> Body
-    ensures { body_of result ≡ frame_body_at table 0x07 s.now at }
+fn new_token(r: &mut Reader) -> Body
+    ensures { body_of result r.new.at ≡ frame_body_at table 0x07 r.old.bytes.now r.old.at }
 {
-    let (token, next) = field::take_len(s, at)?;
-    Ok((Frame::NewToken(NewToken { token }), next))
+    let token = field::take_len(r)?;
+    Ok(Frame::NewToken(NewToken { token }))
 }
 
-fn stream(s: &[u8], at: usize, ty: u64) -> Body
-    ensures { body_of result ≡ fields_at 0x08 (stream_fields ty) s.now at [] }
+fn stream(r: &mut Reader, ty: u64) -> Body
+    ensures { body_of result r.new.at ≡ fields_at 0x08 (stream_fields ty) r.old.bytes.now r.old.at [] }
 {
     let off = field::has(ty, types::OFF);
     let len = field::has(ty, types::LEN);
     let fin = field::has(ty, types::FIN);
-    let (id, p) = coding::get_var(s, at)?;
-    let (offset, q) = field::var_if(s, p, off)?;
-    let (data, next) = field::data_if(s, q, len)?;
+    let id = r.get_var()?;
+    let offset = field::var_if(r, off)?;
+    let data = field::data_if(r, len)?;
     let frame = Stream {
         id: StreamId(id.0),
         offset: offset.0,
@@ -147,38 +141,38 @@ fn stream(s: &[u8], at: usize, ty: u64) -> Body
         len,
         data,
     };
-    Ok((Frame::Stream(frame), next))
+    Ok(Frame::Stream(frame))
 }
 
-fn max_streams(s: &[u8], at: usize, dir: Dir) -> Body
-    ensures { body_of result ≡ fields_at 0x12 (count_fields (dir_bit dir)) s.now at [] }
+fn max_streams(r: &mut Reader, dir: Dir) -> Body
+    ensures { body_of result r.new.at ≡ fields_at 0x12 (count_fields (dir_bit dir)) r.old.bytes.now r.old.at [] }
 {
-    of_var(s, at, |count| Frame::MaxStreams { dir, count })
+    of_var(r, |count| Frame::MaxStreams { dir, count })
 }
 
-fn streams_blocked(s: &[u8], at: usize, dir: Dir) -> Body
-    ensures { body_of result ≡ fields_at 0x16 (count_fields (dir_bit dir)) s.now at [] }
+fn streams_blocked(r: &mut Reader, dir: Dir) -> Body
+    ensures { body_of result r.new.at ≡ fields_at 0x16 (count_fields (dir_bit dir)) r.old.bytes.now r.old.at [] }
 {
-    of_var(s, at, |limit| Frame::StreamsBlocked { dir, limit })
+    of_var(r, |limit| Frame::StreamsBlocked { dir, limit })
 }
 
-fn new_connection_id(s: &[u8], at: usize) -> Body
-    ensures { body_of result ≡ frame_body_at table 0x18 s.now at }
+fn new_connection_id(r: &mut Reader) -> Body
+    ensures { body_of result r.new.at ≡ frame_body_at table 0x18 r.old.bytes.now r.old.at }
 {
-    let (sequence, p) = coding::get_var(s, at)?;
-    let (retire_prior_to, q) = coding::get_var(s, p)?;
+    let sequence = r.get_var()?;
+    let retire_prior_to = r.get_var()?;
     if sequence.0 < retire_prior_to.0 {
         return Err(Refusal::Malformed);
     }
-    let (id, t) = field::cid(s, q)?;
-    let (reset_token, next) = coding::take(s, t, 16)?;
+    let id = field::cid(r)?;
+    let reset_token = r.take(16)?;
     let frame = NewConnectionId {
         sequence: sequence.0,
         retire_prior_to: retire_prior_to.0,
         id,
         reset_token,
     };
-    Ok((Frame::NewConnectionId(frame), next))
+    Ok(Frame::NewConnectionId(frame))
 }
 
 // Type 0 reads as none.
@@ -188,26 +182,25 @@ fn type_read(x: u64) -> Option<FrameType>
     if x == 0 { None } else { Some(FrameType(x)) }
 }
 
-fn connection_close(s: &[u8], at: usize) -> Body
-    ensures { body_of result ≡ frame_body_at table 0x1c s.now at }
+fn connection_close(r: &mut Reader) -> Body
+    ensures { body_of result r.new.at ≡ frame_body_at table 0x1c r.old.bytes.now r.old.at }
 {
-    let (error_code, p) = coding::get_var(s, at)?;
-    let (ty, q) = coding::get_var(s, p)?;
-    let (reason, next) = field::take_len(s, q)?;
+    let error_code = r.get_var()?;
+    let ty = r.get_var()?;
+    let reason = field::take_len(r)?;
     let close = ConnectionClose {
         error_code: error_code.0,
         frame_type: type_read(ty.0),
         reason,
     };
-    Ok((Frame::Close(Close::Connection(close)), next))
+    Ok(Frame::Close(Close::Connection(close)))
 }
 
-fn application_close(s: &[u8], at: usize) -> Body
-    ensures { body_of result ≡ frame_body_at table 0x1d s.now at }
+fn application_close(r: &mut Reader) -> Body
+    ensures { body_of result r.new.at ≡ frame_body_at table 0x1d r.old.bytes.now r.old.at }
 {
     of_bytes(
-        s,
-        at,
+        r,
         |error_code, reason| Frame::Close(Close::Application(ApplicationClose {
             error_code,
             reason,
@@ -215,72 +208,67 @@ fn application_close(s: &[u8], at: usize) -> Body
     )
 }
 
-fn datagram(s: &[u8], at: usize, ty: u64) -> Body
-    ensures { body_of result ≡ fields_at 0x30 (data_fields ty) s.now at [] }
+fn datagram(r: &mut Reader, ty: u64) -> Body
+    ensures { body_of result r.new.at ≡ fields_at 0x30 (data_fields ty) r.old.bytes.now r.old.at [] }
 {
     let len = field::has(ty, 1);
-    let (data, next) = field::data_if(s, at, len)?;
-    Ok((Frame::Datagram(Datagram { len, data }), next))
+    let data = field::data_if(r, len)?;
+    Ok(Frame::Datagram(Datagram { len, data }))
 }
 
-fn ack_frequency(s: &[u8], at: usize) -> Body
-    ensures { body_of result ≡ frame_body_at table 0xaf s.now at }
+fn ack_frequency(r: &mut Reader) -> Body
+    ensures { body_of result r.new.at ≡ frame_body_at table 0xaf r.old.bytes.now r.old.at }
 {
-    let (sequence, p) = coding::get_var(s, at)?;
-    let (threshold, q) = coding::get_var(s, p)?;
-    let (delay, t) = coding::get_var(s, q)?;
-    let (reordering, next) = coding::get_var(s, t)?;
+    let sequence = r.get_var()?;
+    let threshold = r.get_var()?;
+    let delay = r.get_var()?;
+    let reordering = r.get_var()?;
     let frame = AckFrequency {
         sequence: sequence.0,
         ack_eliciting_threshold: threshold.0,
         request_max_ack_delay: delay.0,
         reordering_threshold: reordering.0,
     };
-    Ok((Frame::AckFrequency(frame), next))
+    Ok(Frame::AckFrequency(frame))
 }
 
 // One decision over the type's number.
-pub(crate) fn read_body(s: &[u8], at: usize, ty: FrameType) -> Body
-    requires { length s.now ≤ max_datagram }
-    ensures { body_of result ≡ frame_body_at table ty.0 s.now at }
+pub(crate) fn read_body(r: &mut Reader, ty: FrameType) -> Body
+    requires { length r.old.bytes.now ≤ max_datagram }
+    ensures { body_of result r.new.at ≡ frame_body_at table ty.0 r.old.bytes.now r.old.at }
 {
     let t = ty.0;
     match t {
-        types::PADDING => Ok((Frame::Padding, at)),
-        types::PING => Ok((Frame::Ping, at)),
-        types::ACK => ack(s, at, false),
-        types::ACK_ECN => ack(s, at, true),
-        types::RESET_STREAM => reset_stream(s, at),
-        types::STOP_SENDING => stop_sending(s, at),
-        types::CRYPTO => of_bytes(s, at, |offset, data| Frame::Crypto(Crypto { offset, data })),
-        types::NEW_TOKEN => new_token(s, at),
-        types::STREAM_FIRST..=types::STREAM_LAST => stream(s, at, t),
-        types::MAX_DATA => of_var(s, at, Frame::MaxData),
-        types::MAX_STREAM_DATA => of_id(s, at, |id, offset| Frame::MaxStreamData { id, offset }),
-        types::MAX_STREAMS_BIDI => max_streams(s, at, Dir::Bi),
-        types::MAX_STREAMS_UNI => max_streams(s, at, Dir::Uni),
-        types::DATA_BLOCKED => of_var(s, at, |offset| Frame::DataBlocked { offset }),
+        types::PADDING => Ok(Frame::Padding),
+        types::PING => Ok(Frame::Ping),
+        types::ACK => ack(r, false),
+        types::ACK_ECN => ack(r, true),
+        types::RESET_STREAM => reset_stream(r),
+        types::STOP_SENDING => stop_sending(r),
+        types::CRYPTO => of_bytes(r, |offset, data| Frame::Crypto(Crypto { offset, data })),
+        types::NEW_TOKEN => new_token(r),
+        types::STREAM_FIRST..=types::STREAM_LAST => stream(r, t),
+        types::MAX_DATA => of_var(r, Frame::MaxData),
+        types::MAX_STREAM_DATA => of_id(r, |id, offset| Frame::MaxStreamData { id, offset }),
+        types::MAX_STREAMS_BIDI => max_streams(r, Dir::Bi),
+        types::MAX_STREAMS_UNI => max_streams(r, Dir::Uni),
+        types::DATA_BLOCKED => of_var(r, |offset| Frame::DataBlocked { offset }),
         types::STREAM_DATA_BLOCKED => of_id(
-            s,
-            at,
+            r,
             |id, offset| Frame::StreamDataBlocked { id, offset },
         ),
-        types::STREAMS_BLOCKED_BIDI => streams_blocked(s, at, Dir::Bi),
-        types::STREAMS_BLOCKED_UNI => streams_blocked(s, at, Dir::Uni),
-        types::NEW_CONNECTION_ID => new_connection_id(s, at),
-        types::RETIRE_CONNECTION_ID => of_var(
-            s,
-            at,
-            |sequence| Frame::RetireConnectionId { sequence },
-        ),
-        types::PATH_CHALLENGE => of_num64(s, at, Frame::PathChallenge),
-        types::PATH_RESPONSE => of_num64(s, at, Frame::PathResponse),
-        types::CONNECTION_CLOSE => connection_close(s, at),
-        types::APPLICATION_CLOSE => application_close(s, at),
-        types::HANDSHAKE_DONE => Ok((Frame::HandshakeDone, at)),
-        types::IMMEDIATE_ACK => Ok((Frame::ImmediateAck, at)),
-        types::DATAGRAM_FIRST..=types::DATAGRAM_LAST => datagram(s, at, t),
-        types::ACK_FREQUENCY => ack_frequency(s, at),
+        types::STREAMS_BLOCKED_BIDI => streams_blocked(r, Dir::Bi),
+        types::STREAMS_BLOCKED_UNI => streams_blocked(r, Dir::Uni),
+        types::NEW_CONNECTION_ID => new_connection_id(r),
+        types::RETIRE_CONNECTION_ID => of_var(r, |sequence| Frame::RetireConnectionId { sequence }),
+        types::PATH_CHALLENGE => of_num64(r, Frame::PathChallenge),
+        types::PATH_RESPONSE => of_num64(r, Frame::PathResponse),
+        types::CONNECTION_CLOSE => connection_close(r),
+        types::APPLICATION_CLOSE => application_close(r),
+        types::HANDSHAKE_DONE => Ok(Frame::HandshakeDone),
+        types::IMMEDIATE_ACK => Ok(Frame::ImmediateAck),
+        types::DATAGRAM_FIRST..=types::DATAGRAM_LAST => datagram(r, t),
+        types::ACK_FREQUENCY => ack_frequency(r),
         _ => Err(Refusal::InvalidFrameId),
     }
 }

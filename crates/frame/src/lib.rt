@@ -1,6 +1,6 @@
 // Frames: one is read at a place of the payload (frame.rs, reading; RFC 9000, sections 12.4 and 19). Data, reason, token, CID,
 // reset token and ACK blocks are places in that payload: `coding::part(payload, place)` hands back each as a part of it.
-#![tactic(auto, unfolding(crate::specs::Table::frame_at, crate::specs::Table::outcome, crate::specs::Walk::step_at, crate::specs::Walk::sized, crate::specs::Walk::took, crate::specs::Said::said_of, crate::specs::Said::step_of, crate::specs::Said::sized_step_of, crate::specs::Said::body_of, coding::specs::Words::and_then, coding::specs::Said::var_of))]
+#![tactic(auto, unfolding(crate::specs::Table::frame_at, crate::specs::Table::outcome, crate::specs::Walk::step_at, crate::specs::Walk::sized, crate::specs::Walk::took, crate::specs::Said::said_of, crate::specs::Said::step_of, crate::specs::Said::sized_step_of, crate::specs::Said::body_of, coding::specs::Words::and_then, coding::specs::Said::found_by))]
 
 mod body; // body.rt: each kind's fields, and the decision over the type's number
 mod field; // field.rt: the fields that are more than an integer
@@ -12,7 +12,7 @@ ghost use Rattle.frame.specs.Table.{table, frame_at};
 ghost use Rattle.frame.specs.Walk.{step_at, sized};
 ghost use Rattle.frame.specs.Said.{said_of, step_of, sized_step_of};
 
-use coding::{MAX_DATAGRAM, Refusal};
+use coding::{MAX_DATAGRAM, Reader, Refusal};
 pub use kinds::{
     Ack, AckFrequency, ApplicationClose, Close, ConnectionClose, Crypto, Datagram, Frame,
     NewConnectionId, NewToken, ResetStream, StopSending, Stream,
@@ -49,9 +49,14 @@ pub(crate) fn read_frame(s: &[u8], start: usize) -> Result<FrameRead, InvalidFra
 {
     let refused = |why, ty| InvalidFrame { why, start, ty };
     let cut = |_| refused(Refusal::UnexpectedEnd, None);
-    let (number, at) = coding::get_var(s, start).map_err(cut)?;
+    let mut r = Reader {
+        bytes: s,
+        at: start,
+    };
+    let number = r.get_var().map_err(cut)?;
     let ty = FrameType(number.0);
-    let (frame, next) = body::read_body(s, at, ty).map_err(|why| refused(why, Some(ty)))?;
+    let frame = body::read_body(&mut r, ty).map_err(|why| refused(why, Some(ty)))?;
+    let next = r.at;
     Ok(FrameRead { frame, ty, next })
 }
 

@@ -1,6 +1,0 @@
-use native.Mathlib.Omega.{arith}
-use Rattle.ack.proofs.Laws.{var_small}
-use Rattle.ack.proofs.scan_round.Goals as goal
-
-pub overflow_add-gap : goal.overflow_add-gap
-overflow_add-gap c = omega (arith, var_small c.args.s.now _ _ _ _ (λ i. omega (arith, c.type_inv.s i)) c.get_var.ensures c.in_ok-gap.was)
