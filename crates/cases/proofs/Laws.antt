@@ -15,7 +15,7 @@ use borrow.Author.Tests.{leb-true}
 use Rattle.coding.specs.Words.{cut, and_then}
 use Rattle.coding.specs.Bytes.{splice}
 use Rattle.coding.specs.Reading.{fixed_at}
-use Rattle.coding.specs.Said.{read_of, number_read}
+use Rattle.coding.specs.Said.{found_by}
 use Rattle.coding.specs.Writing.{Put}
 use Rattle.coding.specs.declared.Place.{Place}
 use Rattle.coding.specs.declared.refusal.UnexpectedEnd.{UnexpectedEnd}
@@ -27,19 +27,19 @@ use Rattle.cases.specs.Lines.{and_num, and_nums}
 
 -- ---- parts of a record, one after the other
 
-module _ (s : List ℕ) (at left : ℕ) (r : Result (Place × ℕ) UnexpectedEnd) (e : read_of r ≡ sized_at s at) where
-  pub after_more : (p : Place) (n : ℕ) → 0 < left → r ≡ Ok (p, n) → part_after left s at ≡ part_after (left - 1) s n
-  unfolding read_of part_after and_then
-  after_more p n = go left
+module _ (s : List ℕ) (at left : ℕ) (r : Result Place UnexpectedEnd) (n : ℕ) (e : found_by (λ p. p) r n ≡ sized_at s at) where
+  pub after_more : (p : Place) → 0 < left → r ≡ Ok p → part_after left s at ≡ part_after (left - 1) s n
+  unfolding found_by part_after and_then
+  after_more p = go left
     where
-      go : (k : ℕ) → 0 < k → r ≡ Ok (p, n) → part_after k s at ≡ part_after (k - 1) s n
+      go : (k : ℕ) → 0 < k → r ≡ Ok p → part_after k s at ≡ part_after (k - 1) s n
       go zero h q = absurd (not-suc-le-zero h)
       go (suc k) h q =
           let d : suc k - 1 ≡ k = omega arith in
           rw (← e, q, d)
 
   pub after_cut : (end : UnexpectedEnd) → 0 < left → r ≡ Err end → part_after left s at ≡ cut
-  unfolding read_of part_after and_then
+  unfolding found_by part_after and_then
   after_cut end = go left
     where
       go : (k : ℕ) → 0 < k → r ≡ Err end → part_after k s at ≡ cut
@@ -48,16 +48,16 @@ module _ (s : List ℕ) (at left : ℕ) (r : Result (Place × ℕ) UnexpectedEnd
 
 -- ---- numbers of 4 bytes, one after the other
 
-module _ (s : List ℕ) (at most n : ℕ) (list : List ℕ) (r : Result (ℕ × ℕ) UnexpectedEnd) (e : number_read (λ (x : ℕ). x) r ≡ fixed_at 4 s at) where
-  pub words_more : (x next : ℕ) → n < most → r ≡ Ok (x, next)
+module _ (s : List ℕ) (at most n : ℕ) (list : List ℕ) (r : Result ℕ UnexpectedEnd) (next : ℕ) (e : found_by (λ (x : ℕ). x) r next ≡ fixed_at 4 s at) where
+  pub words_more : (x : ℕ) → n < most → r ≡ Ok x
       → words_from (most - n) s at (n, list) ≡ words_from (most - (n + 1)) s next (n + 1, set list n x)
-  unfolding number_read words_from and_then
-  words_more x next h q =
+  unfolding found_by words_from and_then
+  words_more x h q =
       let d : most - n ≡ suc (most - (n + 1)) = omega arith in
       rw (d, ← e, q)
 
   pub words_cut : (end : UnexpectedEnd) → n < most → r ≡ Err end → words_from (most - n) s at (n, list) ≡ (n, list)
-  unfolding number_read words_from and_then
+  unfolding found_by words_from and_then
   words_cut end h q =
       let d : most - n ≡ suc (most - (n + 1)) = omega arith in
       rw (d, ← e, q)

@@ -1,12 +1,14 @@
 // The records of an input. Each is its operation's number, its length in 3 bytes, and its fields: six numbers of 8 bytes, then
 // its parts, each after its length in 3 bytes. A number or a part that a record does not have reads as 0, and as none.
+#![tactic(auto, unfolding(coding::specs::Words::and_then, coding::specs::Said::found_by, crate::specs::Records::head_in, crate::specs::Records::sized_at, crate::specs::Records::number_in, crate::specs::Records::byte_in, crate::specs::Said::case_of))]
+
 ghost use Rattle.std.specs.Prelude.{◌≡◌, ◌%◌};
 ghost use Rattle.coding.specs.Places.{Part, start_of, part_of};
-ghost use Rattle.coding.specs.Said.{read_of};
+ghost use Rattle.coding.specs.Said.{found_by};
 ghost use Rattle.cases.specs.Records.{head_in, sized_at, number_in, numbers_in, part_in, byte_in, five_in, Laid, Listed};
 ghost use Rattle.cases.specs.Said.{case_of};
 
-use coding::{Place, UnexpectedEnd, get, part, put_slice, take};
+use coding::{Place, Reader, UnexpectedEnd, part, put_slice};
 
 // A record's operation, and how many bytes its fields are.
 #[derive(Clone, Copy, PartialEq, Eq)]
@@ -30,32 +32,32 @@ pub struct Numbers {
 pub fn head(b: &[u8]) -> Result<Option<Record>, UnexpectedEnd>
     ensures { case_of result ≡ head_in b.now }
 {
-    let Ok((op, at)) = get::<u8>(b, 0) else {
+    let mut r = Reader { bytes: b, at: 0 };
+    let Ok(op) = r.get::<u8>() else {
         return Ok(None);
     };
-    let (high, at) = get::<u8>(b, at)?;
-    let (low, _) = get::<u16>(b, at)?;
+    let high = r.get::<u8>()?;
+    let low = r.get::<u16>()?;
     let len = (high as usize) * 65536 + (low as usize);
     Ok(Some(Record { op, len }))
 }
 
 // Bytes after their length.
-fn sized(rec: &[u8], at: usize) -> Result<(Place, usize), UnexpectedEnd>
-    ensures { read_of result ≡ sized_at rec.now at }
+fn sized(r: &mut Reader) -> Result<Place, UnexpectedEnd>
+    ensures finds { found_by (λ p. p) result r.new.at ≡ sized_at r.old.bytes.now r.old.at }
+    ensures bytes { r.new.bytes ≡ r.old.bytes }
 {
-    let (high, at) = get::<u8>(rec, at)?;
-    let (low, at) = get::<u16>(rec, at)?;
-    take(rec, at, (high as u64) * 65536 + (low as u64))
+    let high = r.get::<u8>()?;
+    let low = r.get::<u16>()?;
+    r.take((high as u64) * 65536 + (low as u64))
 }
 
 // Number i of a record.
 fn number(rec: &[u8], i: u8) -> u64
     ensures { result ≡ number_in rec.now i }
 {
-    let Ok((x, _)) = get::<u64>(rec, 8 * (i as usize)) else {
-        return 0;
-    };
-    x
+    let at = 8 * (i as usize);
+    Reader { bytes: rec, at }.get::<u64>().unwrap_or(0)
 }
 
 pub fn numbers_of(rec: &[u8]) -> Numbers
@@ -88,14 +90,13 @@ pub fn word(n: u64) -> u32
 fn place(rec: &[u8], j: u8) -> Place
     ensures { result ≡ part_in rec.now j }
 {
-    let mut at = 48;
+    let mut r = Reader { bytes: rec, at: 48 };
     for _ in 0..j {
-        let Ok((_, next)) = sized(rec, at) else {
+        let Ok(_) = sized(&mut r) else {
             return Place { start: 0, len: 0 };
         };
-        at = next;
     }
-    let Ok((p, _)) = sized(rec, at) else {
+    let Ok(p) = sized(&mut r) else {
         return Place { start: 0, len: 0 };
     };
     p
@@ -112,10 +113,7 @@ pub fn bytes(rec: &[u8], j: u8) -> &[u8]
 pub fn byte_at(b: &[u8], i: usize) -> u8
     ensures { result ≡ byte_in b.now i }
 {
-    let Ok((x, _)) = get::<u8>(b, i) else {
-        return 0;
-    };
-    x
+    Reader { bytes: b, at: i }.get::<u8>().unwrap_or(0)
 }
 
 // The first five bytes of a part: a mask.
@@ -142,13 +140,12 @@ pub fn lay(work: &mut [u8], part: &[u8]) -> usize
 pub fn words(bytes: &[u8], list: &mut [u32]) -> usize
     ensures { Listed bytes.now list.old result list.new }
 {
-    let mut at = 0;
+    let mut r = Reader { bytes, at: 0 };
     for (n, x) in list.iter_mut().enumerate() {
-        let Ok((word, next)) = get::<u32>(bytes, at) else {
+        let Ok(word) = r.get::<u32>() else {
             return n;
         };
         *x = word;
-        at = next;
     }
     list.len()
 }

@@ -11,7 +11,7 @@ ghost use Rattle.protect.specs.Tests.{has_sample, maskable, number_bytes, number
 ghost use Rattle.protect.specs.Steps.{sample_at, opened_by, Opens, Finishes, PartAt, header_place, payload_place, Protects, Masks};
 ghost use Rattle.protect.specs.Said.{long_header, numbered_of, number_len_of, sample_of, opened_of, opens_of, finished_of};
 
-use coding::{MAX_DATAGRAM, Place, Refusal};
+use coding::{MAX_DATAGRAM, Place, Reader, Refusal};
 use shared::{CutNumber, KEY_PHASE_BIT, LONG_HEADER_FORM, LONG_RESERVED_BITS, SHORT_RESERVED_BITS};
 
 // The kind of a header.
@@ -94,7 +94,11 @@ fn decode(len: usize, packet: &[u8], number_offset: usize) -> CutNumber
     requires { (1 ≤ len) × ((len ≤ 4) × (number_offset + 4 ≤ length packet.now)) }
     ensures { result ≡ first_cut len (drop number_offset packet.now) }
 {
-    let (word, _) = coding::get::<u32>(packet, number_offset).unwrap();
+    let mut r = Reader {
+        bytes: packet,
+        at: number_offset,
+    };
+    let word = r.get::<u32>().unwrap();
     number::decode(len, word).unwrap()
 }
 

@@ -1,7 +1,7 @@
 // The operations of `number` on packet numbers: cut and read back.
 use cases::line::{Answer, Out, written};
 use cases::record::{Numbers, lay};
-use coding::Refusal;
+use coding::{Reader, Refusal};
 use shared::{CutNumber, FullNumber};
 
 // A cut number's length and its value.
@@ -30,7 +30,7 @@ pub(crate) fn pndec(k: u64, b: &[u8]) -> Result<Answer, Refusal> {
     if b.len() != 4 {
         return Ok(Answer::Bad);
     }
-    let (word, _) = coding::get::<u32>(b, 0)?;
+    let word = Reader { bytes: b, at: 0 }.get::<u32>()?;
     made(number::decode(k as usize, word))
 }
 

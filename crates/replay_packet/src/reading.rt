@@ -69,8 +69,8 @@ fn split(reader: Reader<'_>, s: &[u8], out: &mut Out) {
 
 // The place past n bytes from a place on.
 fn past(s: &[u8], at: usize, n: usize) -> usize {
-    match coding::take(s, at, n as u64) {
-        Ok((_, next)) => next,
+    match (coding::Reader { bytes: s, at }).take(n as u64) {
+        Ok(Place { start, len }) => start + len,
         Err(_) => s.len(),
     }
 }
