@@ -4,7 +4,7 @@ use Prim.Native.Nat.{ℕ}
 use native.Mathlib.Omega.{arith}
 use Rattle.coding.specs.Words.{Got, cut, got, Answer, no, ok}
 use Rattle.std.specs.Prelude.{Result, Ok, Err}
-use Rattle.coding.specs.Said.{found_by, Reads, read_of, number_read, var_of, answer_of, made_of}
+use Rattle.coding.specs.Said.{found_by, Reads, answer_of, made_of}
 use Rattle.coding.specs.declared.reader.Reader.{Reader}
 use Rattle.coding.proofs.Numbers.{refusal_of, refusal_back}
 use Rattle.coding.specs.declared.refusal.Refusal.{Refusal}
@@ -23,43 +23,6 @@ found stop f (got a n) = f a n
 abbrev pub answered : {A B : Type 0} → (ℕ → B) → (A → B) → Answer A → B
 answered f g (no k) = f k
 answered f g (ok a) = g a
-
--- a read as it is found again
-abbrev pub read_back : {A : Type 0} → Got A → Result (A × ℕ) UnexpectedEnd
-read_back = found (Err (record {})) (λ a n. Ok (a, n))
-
-pub read_one : {A : Type 0} (x y : Result (A × ℕ) UnexpectedEnd) (g : Got A) → read_of x ≡ g → read_of y ≡ g → x ≡ y
-unfolding read_of
-read_one {A} = one_by read_of read_back back
-  where
-    back : (r : Result (A × ℕ) UnexpectedEnd) → read_back (read_of r) ≡ r
-    back (Ok (v, n)) = refl
-    back (Err e) = refl
-
-pub number_one : {T : Type 0} (number : T → ℕ) → ((a b : T) → number a ≡ number b → a ≡ b) → (x y : Result (T × ℕ) UnexpectedEnd) (g : Got ℕ)
-    → number_read number x ≡ g → number_read number y ≡ g → x ≡ y
-unfolding number_read
-number_one {T} number one x y g p q = same x y (p ∙ sym q)
-  where
-    is_got : Got ℕ → ℕ
-    is_got = found 0 (λ a n. 1)
-
-    same : (x y : Result (T × ℕ) UnexpectedEnd) → number_read number x ≡ number_read number y → x ≡ y
-    same (Ok (v, n)) (Ok (w, m)) e = let f = one v w (ap (found 0 (λ a n. a)) e) in let k = ap (found 0 (λ a n. n)) e in λ i. Ok (f i, k i)
-    same (Ok (v, n)) (Err f) e = let z : ◌≡◌ {A = ℕ} 1 0 = ap is_got e in absurd (omega arith)
-    same (Err f) (Ok (w, m)) e = let z : ◌≡◌ {A = ℕ} 0 1 = ap is_got e in absurd (omega arith)
-    same (Err f) (Err h) e = refl
-
-pub var_one : (x y : Result (VarInt × ℕ) UnexpectedEnd) (g : Got ℕ) → var_of x ≡ g → var_of y ≡ g → x ≡ y
-unfolding var_of
-var_one = one_by var_of var_back back
-  where
-    var_back : Got ℕ → Result (VarInt × ℕ) UnexpectedEnd
-    var_back = found (Err (record {})) (λ v n. Ok (record { 0 = v }, n))
-
-    back : (r : Result (VarInt × ℕ) UnexpectedEnd) → var_back (var_of r) ≡ r
-    back (Ok (v, n)) = refl
-    back (Err e) = refl
 
 -- two reads of one reader that find the same, by an f that tells its values, answer the same and stand at one place
 pub reads_one : {A B : Type 0} (f : A → B) → ((a b : A) → f a ≡ f b → a ≡ b) → (m : Got B) (old x' y' : Reader) (x y : Result A UnexpectedEnd)

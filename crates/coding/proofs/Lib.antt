@@ -11,4 +11,3 @@ pub mod Back
 pub mod Numbers
 pub mod Inverse
 pub mod Onces
-pub mod OncesFree

@@ -4,7 +4,6 @@ use Rattle.coding.specs.Words.{Got, cut, got, Answer, no, ok}
 use Rattle.coding.specs.Refusals.{number_of}
 use Rattle.coding.specs.declared.reader.Reader.{Reader}
 use Rattle.coding.specs.declared.refusal.Refusal.{Refusal}
-use Rattle.coding.specs.declared.refusal.UnexpectedEnd.{UnexpectedEnd}
 use Rattle.coding.specs.declared.varint.VarInt.{VarInt}
 
 -- a value by what f says of it, and the place past it; or that the field is cut
@@ -21,18 +20,6 @@ pub record Reads {A B E : Type 0} (f : A → B) (found : Got B) (old : Reader) (
 -- an integer's value
 abbrev pub var_value : VarInt → ℕ
 var_value x = x.0
-
-unfoldable pub number_read : {A B : Type 0} → (A → B) → Result (A × ℕ) UnexpectedEnd → Got B
-number_read number (Ok (x, n)) = got (number x) n
-number_read number (Err e) = cut
-
-unfoldable pub read_of : {A : Type 0} → Result (A × ℕ) UnexpectedEnd → Got A
-read_of (Ok (x, n)) = got x n
-read_of (Err e) = cut
-
-unfoldable pub var_of : Result (VarInt × ℕ) UnexpectedEnd → Got ℕ
-var_of (Ok (x, n)) = got x.0 n
-var_of (Err e) = cut
 
 unfoldable pub answer_of : {A : Type 0} → Result A Refusal → Answer A
 answer_of (Ok a) = ok a

@@ -9,9 +9,7 @@ mod varint; // varint.rt: variable-length integers
 
 ghost use Rattle.std.specs.Prelude.{◌≡◌, ◌+◌, ◌≤◌, length};
 ghost use Rattle.coding.specs.Bytes.{bytes_be, splice};
-ghost use Rattle.coding.specs.Reading.{fixed_at, take_at};
-ghost use Rattle.coding.specs.Said.{number_read, read_of, var_of};
-ghost use Rattle.coding.specs.Varint.{var_at, var_put};
+ghost use Rattle.coding.specs.Varint.{var_put};
 ghost use Rattle.coding.specs.Writing.{Put};
 ghost use Rattle.coding.specs.Places.{Part, start_of, part_of};
 
@@ -34,36 +32,6 @@ pub const MAX_NUMBER: u64 = NUMBER_END - 1;
 pub struct Place {
     pub start: usize,
     pub len: usize,
-}
-
-// The value of a type at a cursor, and the place past it.
-#[tactic(auto, unfolding(crate::specs::Said::found_by, crate::specs::Said::number_read))]
-pub fn get<T: Codec>(s: &[u8], at: usize) -> Result<(T, usize), UnexpectedEnd>
-    ensures { number_read T.number result ≡ fixed_at T.size s.now at }
-{
-    let mut r = Reader { bytes: s, at };
-    let x = r.get()?;
-    Ok((x, r.at))
-}
-
-// The integer at a cursor, in any of its forms.
-#[tactic(auto, unfolding(crate::specs::Said::found_by, crate::specs::Said::var_of))]
-pub fn get_var(s: &[u8], at: usize) -> Result<(VarInt, usize), UnexpectedEnd>
-    ensures { var_of result ≡ var_at s.now at }
-{
-    let mut r = Reader { bytes: s, at };
-    let x = r.get_var()?;
-    Ok((x, r.at))
-}
-
-// The place of the n bytes at a cursor.
-#[tactic(auto, unfolding(crate::specs::Said::found_by, crate::specs::Said::read_of))]
-pub fn take(s: &[u8], at: usize, n: u64) -> Result<(Place, usize), UnexpectedEnd>
-    ensures { read_of result ≡ take_at n s.now at }
-{
-    let mut r = Reader { bytes: s, at };
-    let p = r.take(n)?;
-    Ok((p, r.at))
 }
 
 // The bytes at a place, or none where it does not lie inside.

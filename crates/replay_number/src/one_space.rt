@@ -1,7 +1,7 @@
 // A run of steps over the two number ends of one space.
 use crate::numbers::full;
 use cases::line::{Answer, Out};
-use coding::{Refusal, UnexpectedEnd, get};
+use coding::{Reader, Refusal, UnexpectedEnd};
 use number::Space;
 use shared::{CutNumber, FullNumber};
 
@@ -63,17 +63,18 @@ pub(crate) fn and_ends(s: Space, out: &mut Out) {
     out.and_some(s.largest.map(|n| n.0));
 }
 
-// A step with its numbers at a place.
-pub(crate) fn numbered(op: u8, bytes: &[u8], at: usize) -> Result<Step, UnexpectedEnd> {
-    let (n, at) = get::<u64>(bytes, at)?;
-    let (v, _) = get::<u32>(bytes, at)?;
+// A step with its numbers, which are read next.
+pub(crate) fn numbered(op: u8, r: &mut Reader) -> Result<Step, UnexpectedEnd> {
+    let n = r.get::<u64>()?;
+    let v = r.get::<u32>()?;
     Ok(Step { op, n, v })
 }
 
 // A step's number and two numbers, 13 bytes.
 fn read_step(bytes: &[u8]) -> Result<Step, UnexpectedEnd> {
-    let (op, at) = get::<u8>(bytes, 0)?;
-    numbered(op, bytes, at)
+    let mut r = Reader { bytes, at: 0 };
+    let op = r.get::<u8>()?;
+    numbered(op, &mut r)
 }
 
 // A run of steps from fresh ends on: what each says, and the ends that it leaves.

@@ -2,7 +2,7 @@
 use crate::numbers::full;
 use crate::one_space::{Step, and_ends, kept, numbered, sent, set};
 use cases::line::{Answer, Out};
-use coding::{Refusal, UnexpectedEnd, get};
+use coding::{Reader, Refusal, UnexpectedEnd};
 use protect::Kind;
 use shared::{CutNumber, FullNumber};
 use spaces::Spaces;
@@ -21,9 +21,10 @@ fn kind_of(kind: u8) -> Kind {
 
 // A step's number, the kind's, and two numbers, 14 bytes.
 fn read_step(bytes: &[u8]) -> Result<(Kind, Step), UnexpectedEnd> {
-    let (op, at) = get::<u8>(bytes, 0)?;
-    let (kind, at) = get::<u8>(bytes, at)?;
-    Ok((kind_of(kind), numbered(op, bytes, at)?))
+    let mut r = Reader { bytes, at: 0 };
+    let op = r.get::<u8>()?;
+    let kind = r.get::<u8>()?;
+    Ok((kind_of(kind), numbered(op, &mut r)?))
 }
 
 // What a step says that is a call.
