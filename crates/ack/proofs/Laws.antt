@@ -1,7 +1,7 @@
 -- Laws of the scan.
-use Rattle.std.specs.Prelude.{if◌then◌else◌, Result}
+use Rattle.std.specs.Prelude.{if◌then◌else◌, Result, Ok}
 use Rattle.std.specs.Result.{IsErr, IsErrAnd}
-use mathlib.Core.Path.{◌≡◌, refl, ap}
+use mathlib.Core.Path.{◌≡◌, refl, sym, ap}
 use mathlib.Core.List.{List}
 use mathlib.Core.Bool.{Bool, true, false}
 use Prim.Native.Nat.{ℕ, zero, suc, ◌+◌, ◌-◌, ◌≤◌, ◌<◌, ◌^◌}
@@ -54,6 +54,20 @@ if_ok a b k x e = go (ltb a b) refl
     go : (t : Bool) → ltb a b ≡ t → (if t then no k else x) ≡ ok e → (b ≤ a) × (x ≡ ok e)
     go true q h = cc
     go false q h = (ltb-false _ _ q, h)
+
+-- a round that is not refused ends past its start and inside
+pub round_past : (s : List ℕ) (at smallest : ℕ) (r : Result ℕ Refusal) (next : ℕ)
+    → ((n : ℕ) → round_then r next (rounds s n) ≡ rounds s (suc n) at smallest) → (low : ℕ) → r ≡ Ok low → (at < next) × (next ≤ length s)
+unfolding round_then rounds
+round_past s at smallest r next e low q =
+    let a = then_ok (var_at s at) 10 _ next (sym (rw q at (e 0))) in
+    let b = if_ok smallest (a.value + 2) 12 _ next a.more in
+    let c = then_ok (var_at s a.next) 10 _ next b.1 in
+    let d = if_ok (smallest - (a.value + 2)) c.value 12 _ next c.more in
+    let l : c.next ≡ next = cc in
+    let i = var_inside s at a.value a.next a.read in
+    let j = var_inside s a.next c.value c.next c.read in
+    (omega arith, omega arith)
 
 -- a round more than what is left of n behind the next one is what is left of n
 pub rounds_left : (s : List ℕ) (n i at smallest : ℕ) → i < n → rounds s (suc (n - (i + 1))) at smallest ≡ rounds s (n - i) at smallest

@@ -214,6 +214,14 @@ module _ (delay : ℕ) (l : List ℕ) (ecn : Option (ℕ × (ℕ × ℕ))) where
       pub all_ok : n + length blocks + k ≤ 65527 → ack_out delay l ecn ≡ ok whole
       all_ok h = is_limited ∙ limited_ok given whole (given_below first.small last.small) (omega (arith, length_all))
 
+  -- no other refusal than 14
+  pub only_14 : (k : ℕ) → ack_out delay l ecn ≡ no k → ack_out delay l ecn ≡ no 14
+  only_14 k e = go (is_ranges l) refl
+    where
+      go : (t : Bool) → is_ranges l ≡ t → ack_out delay l ecn ≡ no 14
+      go true r = is_limited r ∙ limited_no given whole k (sym (is_limited r) ∙ e)
+      go false r = not_ranges r
+
 -- ---- what a known size says
 
 pub record Known (w : Answer (List ℕ)) (n : ℕ) : Type 0 where

@@ -21,6 +21,8 @@ use Rattle.coding.specs.Writing.{Written, Put}
 use Rattle.coding.proofs.Inverse.{reads_one, made_one, answer_one}
 use Rattle.coding.specs.contracts.refusal.Refusal.number as number
 use Rattle.coding.proofs.refusal.Refusal.number.Reads as number_reads
+use Rattle.coding.specs.contracts.refusal.RefusalFromUnexpectedEnd.from as end_from
+use Rattle.coding.proofs.refusal.RefusalFromUnexpectedEnd.from.Reads as end_from_reads
 use Rattle.coding.specs.contracts.varint.VarInt.from_u32 as from_u32
 use Rattle.coding.proofs.varint.VarInt.from_u32.Reads as from_u32_reads
 use Rattle.coding.specs.contracts.varint.VarInt.from_u64 as from_u64
@@ -69,6 +71,10 @@ one_written w old x y b d p q i = (answer_one x y _ p.says q.says i, (p.leaves �
 number_once : Once number.ended number_reads.Post (λ κs x s. x)
 unfolding Once
 number_once κs a x y s t p q = p ∙ sym q
+
+end_from_once : Once end_from.ended end_from_reads.Post (λ κs x s. x)
+unfolding Once
+end_from_once κs a x y s t p q = p ∙ sym q
 
 from_u32_once : Once from_u32.ended from_u32_reads.Post (λ κs x s. x)
 unfolding Once

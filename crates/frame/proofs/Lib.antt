@@ -7,6 +7,7 @@ pub mod Scans
 pub mod Look
 pub mod Arms
 pub mod Inside
+pub mod Elicits
 pub mod Walks
 pub mod Inverse
 pub mod Onces

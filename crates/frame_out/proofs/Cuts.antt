@@ -1,11 +1,11 @@
 -- The cases of a close: what max leaves of the reason, which arguments are refused, and its type.
 use Rattle.std.specs.Prelude.{if◌then◌else◌, Result, Ok, Err}
-use mathlib.Core.Path.{◌≡◌, refl, ap}
+use mathlib.Core.Path.{◌≡◌, refl, ap, ◌∙◌}
 use mathlib.Core.List.{List, [], ◌∷◌, ◌++◌}
 use mathlib.Core.Bool.{Bool, true, false}
 use Prim.Native.Nat.{ℕ, zero, suc, ◌+◌, ◌-◌, ◌≤◌, ◌<◌, ◌^◌}
 use native.Mathlib.Omega.{arith}
-use lib.ListN.{length, take, set, length-take, length-append}
+use lib.ListN.{length, take, set, get_or, length-take, length-append}
 use lib.Dec.{ltb, leb}
 use borrow.Author.Tests.{ltb-true, leb-true, lt-ltb, le-ltb, le-leb, lt-leb}
 use Rattle.coding.specs.Words.{Answer, no, ok}
@@ -18,7 +18,7 @@ use Rattle.coding.specs.declared.refusal.Refusal.{Refusal}
 use Rattle.frame.specs.Table.{table}
 use Rattle.row_out.specs.Writing.{Word, number, raw, word_number}
 use Rattle.row_out.specs.Limits.{below62, frame_out, vars_bytes, vars_out}
-use Rattle.row_out.proofs.Laws.{vars_bound, Held, out_ok, out_past, size_not}
+use Rattle.row_out.proofs.Laws.{below_not, vars_bound, Held, out_ok, out_past, size_not}
 use Rattle.frame_out.specs.Closes.{Closing, connection, application, is_connection, fixed_fields, reason_cut, close_with, close_out, cut_with, cut_out}
 use Rattle.frame_out.proofs.Vals.{connection_vals, application_vals}
 
@@ -99,6 +99,24 @@ close_vals_law (application code) d = application_vals code d
 pub close_not : (reason : List ℕ) (max : ℕ) (c : Closing) → reason_cut (fixed_fields c (length reason)) max reason ≡ no 14 → close_out c reason max ≡ no 14
 unfolding close_out close_with
 close_not reason max c e = rw e
+
+module _ (reason : List ℕ) (max : ℕ) (c : Closing) where
+  -- one past its limit is refused, whatever is left of the reason
+  pub close_past : (i : ℕ) → ((n : ℕ) → (i < length (close_vals c n)) × (2 ^ 62 ≤ get_or (close_vals c n) i 0)) → close_out c reason max ≡ no 14
+  unfolding close_out close_with
+  close_past i h =
+      cut_all (fixed_fields c (length reason)) max reason (λ (w : Answer (List ℕ)). close_with c w ≡ no 14) refl
+      (λ k. let d = take k reason in
+      let at = h (length d) in
+      close_vals_law c d ∙ out_past (close_vals c (length d)) d (below_not (close_vals c (length d)) i at.0 at.1))
+
+  -- what is written of a reason of which n bytes are kept
+  pub close_kept : {fixed n : ℕ} → (reason_cut fixed max reason ≡ ok (take n reason)) × (n ≤ length reason) → fixed ≡ fixed_fields c (length reason)
+      → close_out c reason max ≡ vars_out (close_vals c n) (take n reason)
+  unfolding close_out
+  close_kept {n = n} e sum =
+      let long : length (take n reason) ≡ n = simp length-take (omega (arith, e.1)) in
+      rw (← sum, e.0) (close_vals_law c (take n reason) ∙ rw long)
 
 -- those before the length of the reason, which the sum counts by their sizes
 abbrev pub close_head : Closing → List ℕ

@@ -12,6 +12,7 @@ use lib.Dec.{eqb}
 use borrow.Author.Tests.{lt-ltb, le-ltb, eq-eqb, ne_eqb, eqb-true, eqb-false}
 use Rattle.coding.specs.Words.{no, ok}
 use Rattle.coding.specs.Bytes.{be, bytes_be}
+use Rattle.coding.specs.Writing.{Put}
 use Rattle.coding.proofs.Laws.{length_bytes_be, pow256, Octets, octets_take, be_below}
 use Rattle.coding.proofs.Back.{be_bytes}
 use Rattle.shared.specs.declared.kinds.CutNumber.{CutNumber}
@@ -119,6 +120,11 @@ module _ (k : ℕ) (bs : List ℕ) where
   pub read_some : 1 ≤ k → k ≤ 4 → ok (first_cut k bs) ≡ cut_read k bs
   unfolding cut_read
   read_some p q = simp (le-ltb _ _ p, le-ltb _ _ q)
+
+-- a put of as many bytes as it has
+pub put_length : (c : CutNumber) {n : ℕ} {old new : List ℕ} {at next : ℕ} → is_cut c ≡ true → c.0 ≡ n → Put (bytes_be n c.1) old at next new
+    → Put (cut_put c) old at next new
+put_length c i e p = rw (put_in c i, e) p
 
 -- of a word's four bytes
 pub read_word : (k word : ℕ) {v : ℕ} → 1 ≤ k → k ≤ 4 → word < 2 ^ 32 → v ≡ word / 256 ^ (4 - k) → ok (cut k v) ≡ cut_read k (bytes_be 4 word)

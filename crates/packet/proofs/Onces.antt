@@ -7,6 +7,8 @@ use Rattle.coding.proofs.Onces.{seen, one_part}
 use Rattle.coding.proofs.Numbers.{refusal_of, refusal_back}
 use Rattle.packet.proofs.Unlisted.{header_named, split_named, step_named}
 use Rattle.packet.proofs.Inverse.{kind_one, option_one, space_one, outcome_one, split_one, step_one}
+use Rattle.packet.specs.contracts.error.PacketDecodeErrorFromUnexpectedEnd.from as end_from
+use Rattle.packet.proofs.error.PacketDecodeErrorFromUnexpectedEnd.from.Reads as end_from_reads
 use Rattle.packet.specs.contracts.error.PacketDecodeError.refusal as refusal
 use Rattle.packet.proofs.error.PacketDecodeError.refusal.Reads as refusal_reads
 use Rattle.packet.specs.contracts.error.PacketDecodeError.dst_cid as refused_dst
@@ -124,3 +126,7 @@ token_once κs a x y s t p q = one_part _ x y _ _ p q
 step_once : Once step.ended step_reads.Post (λ κs x s. x)
 unfolding Once
 step_once κs a x y s t p q = step_one x y _ (step_named _ _ _ _ _) p q
+
+end_from_once : Once end_from.ended end_from_reads.Post (λ κs x s. x)
+unfolding Once
+end_from_once κs a x y s t p q = p ∙ sym q

@@ -70,9 +70,6 @@ module _ (version : ℕ) (dst src : ConnectionId) {old m₁ : List ℕ} {at r₁
     both : length (bytes_be 4 version ++ long_bytes dst) ≡ length (bytes_be 4 version) + length (long_bytes dst)
     both = length-append (bytes_be 4 version) (long_bytes dst)
 
-    pub src_room : r₂ + length (long_bytes src) ≤ length m₂
-    src_room = let s = stands at_src (omega (arith, room, names_long, both)) in omega (arith, s, room, names_long, both)
-
     pub names_run : {new : List ℕ} {next : ℕ} → Put (long_bytes src) m₂ r₂ next new → Put (names_bytes (some version) dst src) old at next new
     unfolding names_bytes
     names_run r = put_fits _ _ _ room (rw append_assoc at (so_put at_src (omega (arith, room, names_long, both)) r))

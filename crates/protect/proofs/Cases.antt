@@ -31,6 +31,10 @@ use Rattle.protect.proofs.Inside.{four_left}
 pub told : {A : Type 0} {r t v : A} → r ≡ t → r ≡ v → t ≡ v
 told {r} e h = sym e ∙ h
 
+-- and of a test that failed
+pub denied : {r t : Bool} → r ≡ t → r ≡ false → t ≡ false
+denied = told
+
 -- rule 8 has passed
 pub reaches : {r : Bool} (len at : ℕ) → r ≡ has_sample len at → r ≡ true → at + 20 ≤ len
 reaches {r} len at e h = omega (arith, leb-true (at + 4 + 16) len (told e h))

@@ -1,7 +1,9 @@
 -- What a turn of each loop comes to, and what a writer's answer is as a record.
-use Rattle.std.specs.Prelude.{◌⊎◌}
+use Rattle.std.specs.Prelude.{◌⊎◌, if◌then◌else◌}
 use Rattle.std.proofs.Common.{inl, inr}
-use Prim.Native.Nat.{ℕ, zero, suc, ◌+◌, ◌-◌, ◌≤◌, ◌<◌}
+use mathlib.Core.Bool.{Bool, true, false}
+use lib.Dec.{ltb}
+use Prim.Native.Nat.{ℕ, zero, suc, ◌+◌, ◌-◌, ◌≤◌, ◌<◌, ◌^◌}
 use mathlib.Core.Path.{◌≡◌, refl, ◌∙◌, ap}
 use mathlib.Core.List.{List, ◌∷◌, map}
 use native.Mathlib.Numerals.{add-one}
@@ -10,6 +12,9 @@ use lib.ListN.{length, drop, get_or}
 use lib.Seq.{drop-cons, drop-length}
 use lib.Bits.{bit_xor}
 use borrow.Author.Tests.{lt-ltb, le-ltb}
+use Rattle.shared.specs.declared.kinds.CutNumber.{CutNumber}
+use Rattle.number.specs.Cutting.{is_cut}
+use Rattle.number.specs.Expanding.{expanded}
 use Rattle.coding.specs.Words.{cut, got, and_then, Answer, no, ok}
 use Rattle.coding.specs.Varint.{var_at}
 use Rattle.coding.specs.Writing.{Written}
@@ -63,6 +68,16 @@ module _ {A : Type 0} (f : A → Answer ℕ) (xs : List A) (i mixed : ℕ) where
         → gathered_from (map f (drop i xs)) i mixed ≡ gathered_from (map f (drop (i + 1) xs)) (i + 1) (bit_xor mixed v)
     unfolding gathered_from
     goes_on v e = rw (one, e)
+
+-- a cut number that is not read back is refused 14
+pub only_14 : (c : CutNumber) (e k : ℕ) → expanded c e ≡ no k → expanded c e ≡ no 14
+unfolding expanded
+only_14 c e k = go (is_cut c) (ltb (2 ^ 62) e) _
+  where
+    go : (t u : Bool) (n : ℕ) → (if t then (if u then no 14 else ok n) else no 14) ≡ no k → (if t then (if u then no 14 else ok n) else no 14) ≡ no 14
+    go true true n h = refl
+    go true false n h = let z : ◌≡◌ {A = ℕ} 0 1 = cc in absurd (omega arith)
+    go false u n h = refl
 
 -- ---- writers
 
