@@ -1,6 +1,6 @@
 -- The frame's bytes, its size and its refusals.
 use Rattle.std.specs.Prelude.{if◌then◌else◌, Result, Ok, Err}
-use mathlib.Core.Path.{◌≡◌, refl, ap, ◌∙◌}
+use mathlib.Core.Path.{◌≡◌, refl, sym, ap, ◌∙◌}
 use mathlib.Core.List.{List, [], ◌∷◌, ◌++◌, append_assoc, append-nil}
 use mathlib.Core.Bool.{Bool, true, false}
 use mathlib.Core.Option.{Option, none, some}

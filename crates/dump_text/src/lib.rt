@@ -119,6 +119,7 @@ fn put_lines(s: &[u8], buf: &mut [u8], anew: bool) -> usize
 }
 
 // The length of the whole text: each of its lines is put into the same small buffer.
+#[tactic(auto, unfolding(crate::specs::Turns::Roomy))]
 fn text_len(s: &[u8]) -> usize
     ensures { result ≡ length (dump_text s.now) }
 {

@@ -1,9 +1,10 @@
 -- What each encoder's code hands on, integers and then bytes, makes the bytes of its row.
 use Rattle.std.specs.Prelude.{if◌then◌else◌}
+use Rattle.std.specs.Int.{from_bool}
 use mathlib.Core.Path.{◌≡◌, refl}
 use mathlib.Core.List.{List, [], ◌∷◌, ◌++◌, append_assoc, append-nil}
 use mathlib.Core.Bool.{Bool, true, false, not}
-use Prim.Native.Nat.{ℕ, ◌+◌, ◌-◌, ◌≤◌, ◌<◌, ◌^◌}
+use Prim.Native.Nat.{ℕ, ◌+◌, ◌-◌, ◌*◌, ◌≤◌, ◌<◌, ◌^◌}
 use native.Mathlib.Omega.{arith}
 use lib.ListN.{length, length-append}
 use lib.Dec.{ltb, eqb}
@@ -79,11 +80,6 @@ abbrev pub unless : Bool → ℕ → List ℕ
 unless true x = []
 unless false x = x ∷ []
 
--- a bit that stands where a test fails
-pub unless_not : (t : Bool) (n : ℕ) → (if not t then n else 0) ≡ (if t then 0 else n)
-unless_not true n = refl
-unless_not false n = refl
-
 -- an end below its start, or past its limit, is refused
 module _ (id start end : ℕ) (fin len : Bool) where
   pub meta_below : end < start → meta_out id start end fin len ≡ no 14
@@ -109,6 +105,17 @@ module _ (id start end : ℕ) (fin len : Bool) where
 -- the type, whether the start is 0 or not
 abbrev pub type_by : Bool → Bool → Bool → ℕ
 type_by z fin len = 0x08 + (if z then 0 else 4) + (if len then 2 else 0) + (if fin then 1 else 0)
+
+-- as a sum of bits
+pub type_bits : (z fin len : Bool) → 8 + 4 * from_bool (not z) + 2 * from_bool len + 1 * from_bool fin ≡ type_by z fin len
+type_bits true true true = refl
+type_bits true true false = refl
+type_bits true false true = refl
+type_bits true false false = refl
+type_bits false true true = refl
+type_bits false true false = refl
+type_bits false false true = refl
+type_bits false false false = refl
 
 module _ (id start end : ℕ) (ordered : start ≤ end) (small : end < 2 ^ 62) where
   end_fits : ltb end (2 ^ 62) ≡ true

@@ -30,10 +30,7 @@ impl CloseKind {
     pub fn is_transport_layer(self) -> bool
         ensures { result ≡ is_connection (closing_of self) }
     {
-        match self {
-            CloseKind::Connection { .. } => true,
-            CloseKind::Application { .. } => false,
-        }
+        matches!(self, CloseKind::Connection { .. })
     }
 }
 

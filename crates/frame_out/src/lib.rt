@@ -5,7 +5,7 @@
 mod closes; // closes.rt: the closes
 mod codec; // codec.rt: a frame's type, a stream id, an error code by themselves
 
-ghost use Rattle.std.specs.Prelude.{◌≡◌, ◌++◌, ◌≤◌, length, eqb, if◌then◌else◌};
+ghost use Rattle.std.specs.Prelude.{◌≡◌, ◌++◌, ◌≤◌, length};
 ghost use Rattle.coding.specs.Said.{answer_of};
 ghost use Rattle.coding.specs.Writing.{length_of, Written};
 ghost use Rattle.shared.specs.Cid.{max_cid, long_bytes};
@@ -43,21 +43,14 @@ pub fn ecn_counts(counts: EcnCounts, out: &mut [u8]) -> Result<usize, Refusal>
     row_out::frame_of(&vals, &[], out)
 }
 
-// A bit of the type, where it stands.
-fn bit_if(there: bool, bit: u64) -> u64
-    ensures { (result ≡ (if there then bit else 0)) × (result ≤ bit) }
-{
-    if there { bit } else { 0 }
-}
-
 // The type of a stream frame.
 fn stream_type(start: u64, fin: bool, with_len: bool) -> u64
     ensures { result ≡ stream_type start fin with_len }
 {
     types::STREAM_FIRST
-        + bit_if(start != 0, types::OFF)
-        + bit_if(with_len, types::LEN)
-        + bit_if(fin, types::FIN)
+        + types::OFF * u64::from(start != 0)
+        + types::LEN * u64::from(with_len)
+        + types::FIN * u64::from(fin)
 }
 
 // A stream frame up to its data; `with_len` says whether the data's length is written.

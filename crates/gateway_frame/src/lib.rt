@@ -5,13 +5,13 @@ mod records; // records.rt: the records
 mod rows; // rows.rt: a frame's name and values
 
 ghost use Rattle.std.specs.Prelude.{◌≡◌};
+ghost use Rattle.coding.specs.Refusals.{number_of};
 ghost use Rattle.frame.specs.Said.{frame_said, type_seen, step_of};
 ghost use Rattle.gateway_frame.specs.Frames.{frame_row_of, found_record, frame_refused, frame_record, frame_for, is_padding, padding_record};
 
 use coding::MAX_DATAGRAM;
 use frame::{FrameRead, InvalidFrame};
 pub use records::{FrameAnswer, FrameValue, Span};
-use shared::FrameType;
 
 // A frame that was read.
 fn found(start: usize, read: FrameRead) -> FrameAnswer
@@ -37,12 +37,13 @@ fn found(start: usize, read: FrameRead) -> FrameAnswer
     }
 }
 
-// No frame: the end of the payload, with refusal 0, or a refusal.
-fn no_frame(refusal: u8, start: usize, ty: Option<FrameType>) -> FrameAnswer
-    ensures { result ≡ frame_refused refusal start (type_seen ty) }
+// A refusal, with the frame's start, and its type once read.
+fn refused(x: InvalidFrame) -> FrameAnswer
+    ensures { result ≡ frame_refused (number_of x.why) x.start (type_seen x.ty) }
 {
+    let InvalidFrame { why, start, ty } = x;
     let untyped = FrameAnswer {
-        refusal,
+        refusal: why.number(),
         start,
         ..FrameAnswer::NOTHING
     };
@@ -56,19 +57,23 @@ fn no_frame(refusal: u8, start: usize, ty: Option<FrameType>) -> FrameAnswer
     }
 }
 
-// What a step of the walk at a place says.
+// What a step of the walk at a place says; at the end of the payload there is no frame, and no refusal.
 #[tactic(auto, unfolding(crate::specs::Frames::frame_record, frame::specs::Said::step_of, frame::specs::Said::said_of))]
 fn frame_record(at: usize, step: Option<Result<FrameRead, InvalidFrame>>) -> FrameAnswer
     ensures { result ≡ frame_record at (step_of step) }
 {
     match step {
-        None => no_frame(0, at, None),
+        None => FrameAnswer {
+            start: at,
+            ..FrameAnswer::NOTHING
+        },
         Some(Ok(read)) => found(at, read),
-        Some(Err(x)) => no_frame(x.why.number(), x.start, x.ty),
+        Some(Err(x)) => refused(x),
     }
 }
 
 // The frame at a place of a payload; the next one is at `next`.
+#[tactic(auto, unfolding(crate::specs::Frames::frame_for))]
 pub fn read(payload: &[u8], at: usize) -> FrameAnswer
     ensures { result ≡ frame_for payload.now at }
 {

@@ -1,5 +1,6 @@
 -- The header before a payload, over lent connection ids: with encode's placeholder, and with its Length.
 use Rattle.std.specs.Prelude.{if◌then◌else◌}
+use Rattle.std.proofs.Math.Bool.{and-true, and-false}
 use Prim.Native.Nat.{ℕ, ◌+◌, ◌^◌, ◌≤◌, ◌<◌}
 use mathlib.Core.Path.{◌≡◌, refl, ap, ◌∙◌}
 use mathlib.Core.List.{List, ◌∷◌}
@@ -25,14 +26,6 @@ use Rattle.packet_out.proofs.LengthAndMask.{without}
 
 -- ---- with its Length
 
-and_true : (a : Bool) → (a && true) ≡ a
-and_true true = refl
-and_true false = refl
-
-and_false : (a : Bool) → (a && false) ≡ false
-and_false true = refl
-and_false false = refl
-
 module _ (p : Plain) (dst src : ConnectionId) (token : List ℕ) (n : ℕ) where
   pub with_wide : (leb dst.len max_cid && leb src.len max_cid) ≡ false → header_with p dst src token n ≡ no 14
   unfolding header_with fits roomy keep_rules
@@ -40,7 +33,7 @@ module _ (p : Plain) (dst src : ConnectionId) (token : List ℕ) (n : ℕ) where
 
   pub with_not : length_fits (shape_by bits_of p).has_length (number_size p + n) ≡ false → header_with p dst src token n ≡ no 14
   unfolding header_with fits
-  with_not h = rw (h, and_false (roomy p dst src token n))
+  with_not h = rw (h, and-false (roomy p dst src token n))
 
   same_header : (b : Bool) (m : ℕ) → (shape_by bits_of p).has_length ≡ b
       → written_header bits_of (bytes_be 2 (field_for b m)) p dst src token ≡ written_header bits_of (length_field m) p dst src token
@@ -51,7 +44,7 @@ module _ (p : Plain) (dst src : ConnectionId) (token : List ℕ) (n : ℕ) where
   pub with_field : length_fits (shape_by bits_of p).has_length (number_size p + n) ≡ true
       → header_before (bytes_be 2 (field_for (shape_by bits_of p).has_length (number_size p + n))) p dst src token n ≡ header_with p dst src token n
   unfolding header_before header_with fits
-  with_field h = rw (h, same_header (shape_by bits_of p).has_length (number_size p + n) refl, and_true (roomy p dst src token n))
+  with_field h = rw (h, same_header (shape_by bits_of p).has_length (number_size p + n) refl, and-true (roomy p dst src token n))
 
 -- ---- encode's, of a connection id by value
 

@@ -1,5 +1,5 @@
 -- The cases of what is written, each from the tests that lead to it.
-use Rattle.std.specs.Prelude.{if◌then◌else◌}
+use Rattle.std.specs.Prelude.{if◌then◌else◌, Result, Err}
 use Prim.Native.Nat.{ℕ, ◌+◌, ◌-◌, ◌^◌, ◌≤◌, ◌<◌}
 use mathlib.Core.Path.{◌≡◌, refl, sym, ap, ◌∙◌}
 use mathlib.Core.List.{List, ◌∷◌, ◌++◌}
@@ -7,6 +7,7 @@ use mathlib.Core.Bool.{Bool, true, false, ◌&&◌}
 use mathlib.Core.Option.{Option, none, some}
 use native.Mathlib.Omega.{arith}
 use Rattle.std.proofs.Math.Bool.{and-false}
+use Rattle.std.specs.Cmp.{first_so, second_so}
 use lib.ListN.{length, replicate, length-append}
 use lib.Dec.{leb}
 use borrow.Author.Tests.{le-leb, lt-leb, leb-true, leb-false, ltb-true, lt-ltb, le-ltb}
@@ -14,6 +15,11 @@ use Rattle.coding.specs.Words.{Answer, no, ok}
 use Rattle.coding.specs.Bytes.{splice}
 use Rattle.coding.specs.Varint.{var_size}
 use Rattle.coding.specs.Writing.{Written}
+use Rattle.coding.proofs.Writes.{written_no}
+use Rattle.coding.specs.declared.refusal.Refusal.{Refusal}
+use Rattle.coding.specs.Refusals.{number_of}
+use Rattle.packet_out.specs.Said.{encoded_of}
+use Rattle.packet_out.specs.declared.PartialEncode.{PartialEncode}
 use Rattle.coding.proofs.Laws.{length_bytes_be, length_var}
 use Rattle.shared.specs.declared.cid.ConnectionId.{ConnectionId}
 use Rattle.shared.specs.declared.kinds.CutNumber.{CutNumber}
@@ -206,10 +212,13 @@ module _ (field : List ℕ) (p : Plain) (dst src : ConnectionId) (token : List �
     unfolding header_before roomy
     out_ok h = rw (← en, keeps number dst src to from cut, le-leb _ _ (rw (same placeholder) at h)) (ap ok (sym (same field)))
 
--- the Length's two bytes do not count otherwise
-pub out_length : (field : List ℕ) (dst src : ConnectionId) (token : List ℕ) (number : Option CutNumber) (shape : Shape) → length field ≡ 2
-    → length (shape_bytes field shape number dst src token) ≡ length (shape_bytes placeholder shape number dst src token)
-out_length field dst src token number shape e = length_fields field placeholder shape number dst src token (e ∙ sym (length_bytes_be 2 0))
+-- the size that was answered: the Length's two bytes do not count otherwise
+pub sized : (field : List ℕ) (dst src : ConnectionId) (token : List ℕ) (number : Option CutNumber) (shape : Shape) (len : ℕ) → length field ≡ 2
+    → ok len ≡ in_header (shape_bytes placeholder shape number dst src token) (length (shape_bytes placeholder shape number dst src token))
+    → (length (shape_bytes field shape number dst src token) ≡ len) × (length (shape_bytes placeholder shape number dst src token) ≡ len) × (len ≤ 65527)
+sized field dst src token number shape len e q =
+    let h = fits_seen _ _ len q in
+    (length_fields field placeholder shape number dst src token (e ∙ sym (length_bytes_be 2 0)) ∙ h.1, h.1, rw h.1 at h.0)
 
 -- what encode says besides the length
 module _ (p : Plain) {w : Answer (List ℕ)} {old new : List ℕ} where
@@ -222,20 +231,18 @@ module _ (p : Plain) {w : Answer (List ℕ)} {old new : List ℕ} where
   unfolding partial_of
   encodes_ok el eb s = record { says = rw (el, eb) (ap (partial_of p) s.says); leaves = s.leaves }
 
+-- at the exit of a `?`, of a refusal that is 14
+pub refuses : (p : Plain) {w : Answer (List ℕ)} {old : List ℕ} (r : Result PartialEncode Refusal) (why : Refusal) → (x : Refusal) × (r ≡ Err x) × (x ≡ why)
+    → number_of why ≡ 14 → w ≡ no 14 → EncodesAs p w old (encoded_of r) old
+unfolding encoded_of
+refuses p r why e k n = rw (e.1, e.2, k) (encodes_no p (written_no _ n))
+
 -- a Length that fits its two bytes
 pub length_small : (has : Bool) (n : ℕ) → has ≡ true → length_fits has n ≡ true → n < 2 ^ 14
 unfolding length_fits
 length_small has n e h = ltb-true n (2 ^ 14) (rw e at h)
 
 -- ---- the Length step
-
-and_left : (a b : Bool) → (a && b) ≡ true → a ≡ true
-and_left true b h = refl
-and_left false b h = h
-
-and_right : (a b : Bool) → (a && b) ≡ true → b ≡ true
-and_right true b h = h
-and_right false b h = let z : ◌≡◌ {A = ℕ} 0 1 = cc in absurd (omega arith)
 
 -- what a header with a Length that passes the tests has
 pub tests_length : (header_len len : ℕ) (number : Option ℕ) → header_tests header_len number true len ≡ true
@@ -244,9 +251,9 @@ unfolding header_tests
 tests_length header_len len number h =
     let a = leb len 65527 in
     let b = leb header_len len in
-    let l = leb-true (least_header number true) header_len (and_right (a && b && number_fits number) (leb (least_header number true) header_len) h) in
-    let f = and_left (a && b) (number_fits number) (and_left (a && b && number_fits number) (leb (least_header number true) header_len) h) in
-    (omega (arith, l), leb-true _ _ (and_right a b f), leb-true _ _ (and_left a b f))
+    let l = leb-true (least_header number true) header_len (second_so (a && b && number_fits number) (leb (least_header number true) header_len) h) in
+    let f = first_so (a && b) (number_fits number) (first_so (a && b && number_fits number) (leb (least_header number true) header_len) h) in
+    (omega (arith, l), leb-true _ _ (second_so a b f), leb-true _ _ (first_so a b f))
 
 module _ (header_len : ℕ) (number : Option ℕ) (has_length : Bool) (packet : List ℕ) where
   pub set_no : header_tests header_len number has_length (length packet) ≡ false → length_set header_len number has_length packet ≡ no 14

@@ -27,9 +27,6 @@ pub record Stands (old bs : List ℕ) (at r : ℕ) (new : List ℕ) : Type 0 whe
 pub stands : {old bs new : List ℕ} {at r : ℕ} → So old at bs r new → at + length bs ≤ length old → Stands old bs at r new
 stands {old} {bs} {new} {at} s h = record { place = s.place; long = rw s.bytes (length_splice old bs at h) }
 
-run_five : (a b d e f : List ℕ) → (((a ++ b) ++ d) ++ e) ++ f ≡ a ++ (b ++ (d ++ (e ++ f)))
-run_five a b d e f = simp append_assoc
-
 -- ---- a connection id behind its length
 
 module _ (bs : List ℕ) {old m₁ : List ℕ} {at r₁ : ℕ} (few : length bs ≤ 20) (room : at + length (long_bytes (cid_of bs)) ≤ length old)
@@ -59,9 +56,6 @@ module _ (version : ℕ) (dst src : ConnectionId) {old m₁ : List ℕ} {at r₁
 
   at_dst : So old at (bytes_be 4 version) r₁ m₁
   at_dst = put_so _ _ _ (omega (arith, room, names_long)) p
-
-  pub dst_room : r₁ + length (long_bytes dst) ≤ length m₁
-  dst_room = let s = stands at_dst (omega (arith, room, names_long)) in omega (arith, s, room, names_long)
 
   module _ {m₂ : List ℕ} {r₂ : ℕ} (q : Put (long_bytes dst) m₁ r₁ r₂ m₂) where
     at_src : So old at (bytes_be 4 version ++ long_bytes dst) r₂ m₂
@@ -108,7 +102,7 @@ module _ (a b d e f : List ℕ) {old m₁ : List ℕ} {r₁ : ℕ}
       four = so_put (so_put two (omega (arith, fits, two_long)) t) (omega (arith, fits, three_long)) l
 
       pub after_five : {new : List ℕ} {next : ℕ} → Put f m₄ r₄ next new → Put (a ++ (b ++ (d ++ (e ++ f)))) old 0 next new
-      after_five n = put_fits _ _ _ (omega (arith, fits, all_long)) (rw (run_five a b d e f) at (so_put four (omega (arith, fits, four_long)) n))
+      after_five n = put_fits _ _ _ (omega (arith, fits, all_long)) (simp append_assoc at (so_put four (omega (arith, fits, four_long)) n))
 
 -- ---- the whole header
 

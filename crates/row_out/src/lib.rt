@@ -10,6 +10,7 @@ ghost use Rattle.row_out.specs.Limits.{below62, vars_bytes, vars_out, stored};
 use coding::{MAX_DATAGRAM, Refusal, VarInt};
 
 // The bytes of integers, or 14: one is past 2^62 - 1, or they are more than a frame has.
+#[tactic(auto, unfolding(crate::specs::Limits::below62, crate::specs::Limits::vars_bytes))]
 pub fn vars_len(vals: &[u64]) -> Result<usize, Refusal>
     ensures { answer_of result ≡ length_of (vars_out vals.now []) }
 {

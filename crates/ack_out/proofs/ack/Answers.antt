@@ -1,5 +1,5 @@
 use Rattle.std.proofs.Common.{arith}
-use Rattle.std.proofs.lemmas.Result.{err_from_is_err_and}
+use Rattle.ack.proofs.Tries.{exit_answer}
 use Rattle.coding.specs.Said.{answer_of}
 use Rattle.coding.proofs.Writes.{written_no, written_short, written_ok}
 use Rattle.ack_out.proofs.Frames.{not_ranges, known, unknown}
@@ -11,10 +11,8 @@ unfolding answer_of
 returns-in_default c = written_no _ (not_ranges _ _ _ c.in_default.ensures)
 
 pub returns-in_err-len : goal.returns-in_err-len
-unfolding answer_of
 returns-in_err-len c =
-    let p = err_from_is_err_and c.from_residual.result c.from_residual.ensures.1 in
-    rw (← c.in-Some.ensures, p.1, p.2) (written_no _ (unknown _ _ c.frame_len.ensures _ c.in_err-len.was))
+    rw (← c.in-Some.ensures, exit_answer _ _ c.from_residual.ensures) (written_no _ (unknown _ _ c.frame_len.ensures _ c.in_err-len.was))
 
 pub returns-then-out-len : goal.returns-then-out-len
 unfolding answer_of

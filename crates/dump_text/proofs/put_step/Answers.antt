@@ -3,8 +3,6 @@ use mathlib.Core.List.{[], ◌∷◌}
 use mathlib.Core.Bool.{false}
 use Rattle.packet.specs.Said.{packet_step_of}
 use Rattle.packet.proofs.Walks.{step_inside}
-use Rattle.dump_text.specs.Dump.{line_of}
-use Rattle.dump_text.specs.Turns.{line_at}
 use Rattle.dump_text.proofs.put_step.Goals as goal
 
 pub overflow_add-next : goal.overflow_add-next

@@ -1,5 +1,5 @@
 use Rattle.std.proofs.Common.{◌≡◌, ◌++◌, rules, arith, length}
-use Rattle.std.proofs.lemmas.Result.{err_from_is_err_and}
+use Rattle.ack.proofs.Tries.{exit_answer}
 use Rattle.coding.specs.Said.{answer_of}
 use Rattle.coding.proofs.Writes.{written_no, written_short, written_ok}
 use Rattle.shared.specs.Cid.{long_bytes}
@@ -8,10 +8,8 @@ use Rattle.frame_out.proofs.Vals.{id_held, id_puts}
 use Rattle.frame_out.proofs.frame_with_id.Goals as goal
 
 pub returns-in_err-n : goal.returns-in_err-n
-unfolding answer_of
 returns-in_err-n c =
-    let p = err_from_is_err_and c.from_residual.result c.from_residual.ensures.1 in
-    rw (p.1, p.2) (written_no _ (size_not _ _ _ c.vars_len.ensures _ _ c.in_err-n.was (omega arith)))
+    rw (exit_answer _ _ c.from_residual.ensures) (written_no _ (size_not _ _ _ c.vars_len.ensures _ _ c.in_err-n.was (omega arith)))
 
 pub overflow_add-n : goal.overflow_add-n
 overflow_add-n c =

@@ -1,24 +1,19 @@
 use Rattle.std.proofs.lemmas.Result.{err_from_is_err_and}
-use Rattle.coding.proofs.Writes.{written_no}
 use Rattle.shared.specs.Cid.{cid_of}
-use Rattle.packet_out.specs.Said.{encoded_of}
 use Rattle.packet_out.proofs.BeforePayload.{with_wide, with_not, with_field}
-use Rattle.packet_out.proofs.Laws.{encodes_no}
+use Rattle.packet_out.proofs.Laws.{refuses}
 use Rattle.packet_out.proofs.encode_for.Goals as goal
 
 pub returns-in_err-lent : goal.returns-in_err-lent
-unfolding encoded_of cid_of
+unfolding cid_of
 returns-in_err-lent c =
-    let p = err_from_is_err_and c.from_residual.result c.from_residual.ensures.1 in
     let e = c.in_err-lent.ensures in
-    rw (p.1, p.2, e.0) (encodes_no _ (written_no _ (with_wide _ _ _ _ _ e.1)))
+    refuses _ _ _ (err_from_is_err_and _ c.from_residual.ensures.1) e.0 (with_wide _ _ _ _ _ e.1)
 
 pub returns-in_err-field : goal.returns-in_err-field
-unfolding encoded_of
 returns-in_err-field c =
-    let p = err_from_is_err_and c.from_residual-in_err-field.result c.from_residual-in_err-field.ensures.1 in
     let e = c.in_err-field.ensures in
-    rw (p.1, p.2, e.0) (encodes_no _ (written_no _ (with_not _ _ _ _ _ e.1)))
+    refuses _ _ _ (err_from_is_err_and _ c.from_residual-in_err-field.ensures.1) e.0 (with_not _ _ _ _ _ e.1)
 
 pub returns : goal.returns
 returns c =

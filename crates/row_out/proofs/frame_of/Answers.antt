@@ -1,15 +1,13 @@
 use Rattle.std.proofs.Common.{arith}
-use Rattle.std.proofs.lemmas.Result.{err_from_is_err_and}
+use Rattle.ack.proofs.Tries.{exit_answer}
 use Rattle.coding.specs.Said.{answer_of}
 use Rattle.coding.proofs.Writes.{written_no, written_short, written_ok, put_so, so_put}
 use Rattle.row_out.proofs.Laws.{length_out, out_ok, size_held, size_not}
 use Rattle.row_out.proofs.frame_of.Goals as goal
 
 pub returns-in_err-n : goal.returns-in_err-n
-unfolding answer_of
 returns-in_err-n c =
-    let p = err_from_is_err_and c.from_residual.result c.from_residual.ensures.1 in
-    rw (p.1, p.2) (written_no _ (size_not _ _ _ c.frame_size.ensures _ _ c.in_err-n.was (omega arith)))
+    rw (exit_answer _ _ c.from_residual.ensures) (written_no _ (size_not _ _ _ c.frame_size.ensures _ _ c.in_err-n.was (omega arith)))
 
 pub returns-then-buf-n : goal.returns-then-buf-n
 unfolding answer_of

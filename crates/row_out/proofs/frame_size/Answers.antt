@@ -1,5 +1,5 @@
 use Rattle.std.proofs.Common.{◌+◌, ap, refl, arith, length}
-use Rattle.std.proofs.lemmas.Result.{err_from_is_err_and}
+use Rattle.ack.proofs.Tries.{exit_answer}
 use Rattle.coding.specs.Words.{ok}
 use Rattle.coding.specs.Said.{answer_of}
 use Rattle.coding.specs.Writing.{length_of}
@@ -8,10 +8,9 @@ use Rattle.row_out.proofs.Laws.{Held, length_out, out_ok, out_long, size_held, s
 use Rattle.row_out.proofs.frame_size.Goals as goal
 
 pub returns-in_err-n : goal.returns-in_err-n
-unfolding answer_of length_of
+unfolding length_of
 returns-in_err-n c =
-    let p = err_from_is_err_and c.from_residual.result c.from_residual.ensures.1 in
-    rw (p.1, p.2, size_not _ _ _ c.vars_len.ensures _ c.args.bytes.now c.in_err-n.was (omega arith))
+    rw (exit_answer _ _ c.from_residual.ensures, size_not _ _ _ c.vars_len.ensures _ c.args.bytes.now c.in_err-n.was (omega arith))
 
 pub overflow_sub-n : goal.overflow_sub-n
 overflow_sub-n c = (size_held _ _ _ c.vars_len.ensures _ c.in_ok-n.was).short

@@ -1,25 +1,19 @@
-use Rattle.std.proofs.Common.{◌≡◌, ap, refl, suc, [], append-nil, add-one, arith, take}
-use Rattle.std.proofs.lemmas.Result.{err_from_is_err_and}
+use Rattle.std.proofs.Common.{◌≡◌, ap, suc, [], append-nil, add-one, arith, take}
+use Rattle.ack.proofs.Tries.{exit_answer}
 use lib.Seq.{take_all}
 use Rattle.coding.specs.Words.{no, ok}
 use Rattle.coding.specs.Said.{answer_of}
 use Rattle.coding.specs.Writing.{length_of}
 use Rattle.coding.proofs.Laws.{sized_bytes, sized_not, size_le}
-use Rattle.row_out.specs.Limits.{below62, vars_bytes}
 use Rattle.row_out.proofs.Laws.{sized_14, below_more, below_not, length_more, vars_part, Held, out_ok, out_past, out_long}
 use Rattle.row_out.proofs.vars_len.Goals as goal
 
-pub loop-x-init : goal.loop-x-init
-unfolding below62 vars_bytes
-loop-x-init c = (omega arith, refl, refl)
-
 pub returns-in_err-n : goal.returns-in_err-n
-unfolding answer_of length_of
+unfolding length_of
 returns-in_err-n c =
     let v = c.args.vals.now in
-    let p = err_from_is_err_and c.from_residual.result c.from_residual.ensures.1 in
     let h = sized_not _ _ _ c.size.ensures c.in_err-n.was in
-    rw (p.1, p.2, out_past v [] (below_not v c.loop-x.x-index (omega arith) h)) (ap no (sized_14 _ _ _ c.size.ensures c.in_err-n.was))
+    rw (exit_answer _ _ c.from_residual.ensures, out_past v [] (below_not v c.loop-x.x-index (omega arith) h)) (ap no (sized_14 _ _ _ c.size.ensures c.in_err-n.was))
 
 pub overflow_add-n : goal.overflow_add-n
 overflow_add-n c =

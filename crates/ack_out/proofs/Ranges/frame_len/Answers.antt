@@ -1,5 +1,5 @@
 use Rattle.std.proofs.Common.{[], arith}
-use Rattle.std.proofs.lemmas.Result.{err_from_is_err_and}
+use Rattle.ack.proofs.Tries.{exit_answer}
 use Rattle.coding.specs.Said.{answer_of}
 use Rattle.coding.specs.Writing.{length_of}
 use Rattle.row_out.proofs.Laws.{size_held, size_not}
@@ -11,17 +11,15 @@ unfolding answer_of length_of
 returns-then-self-gt-MAX_DATAGRAM c = rw (many_no _ _ _ c.args.self.keeps c.if-self-gt-MAX_DATAGRAM.true)
 
 pub returns-in_err-first : goal.returns-in_err-first
-unfolding answer_of length_of
+unfolding length_of
 returns-in_err-first c =
-    let p = err_from_is_err_and c.from_residual.result c.from_residual.ensures.1 in
     let e = rw c.head-head.ensures at c.vars_len.ensures in
-    rw (p.1, p.2, head_no _ _ _ c.args.self.keeps c.if-self-gt-MAX_DATAGRAM.false (size_not _ _ _ e _ [] c.in_err-first.was (omega arith)))
+    rw (exit_answer _ _ c.from_residual.ensures, head_no _ _ _ c.args.self.keeps c.if-self-gt-MAX_DATAGRAM.false (size_not _ _ _ e _ [] c.in_err-first.was (omega arith)))
 
 pub returns-in_err-last : goal.returns-in_err-last
-unfolding answer_of length_of
+unfolding length_of
 returns-in_err-last c =
-    let p = err_from_is_err_and c.from_residual-in_err-last.result c.from_residual-in_err-last.ensures.1 in
-    rw (p.1, p.2, counts_no _ _ _ c.args.self.keeps c.if-self-gt-MAX_DATAGRAM.false (size_not _ _ _ c.counts_len.ensures _ [] c.in_err-last.was (omega arith)))
+    rw (exit_answer _ _ c.from_residual-in_err-last.ensures, counts_no _ _ _ c.args.self.keeps c.if-self-gt-MAX_DATAGRAM.false (size_not _ _ _ c.counts_len.ensures _ [] c.in_err-last.was (omega arith)))
 
 pub overflow_add-all : goal.overflow_add-all
 overflow_add-all c =

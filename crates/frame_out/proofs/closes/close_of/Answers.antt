@@ -1,18 +1,15 @@
 use Rattle.std.proofs.Common.{◌≤◌, ◌-◌, arith, length, take, length-take}
-use Rattle.std.proofs.lemmas.Result.{err_from_is_err_and}
-use Rattle.coding.specs.Said.{answer_of}
+use Rattle.ack.proofs.Tries.{exit_answer}
 use Rattle.coding.proofs.Writes.{written_no}
 use Rattle.row_out.proofs.Laws.{size_held, vars_bound}
 use Rattle.frame_out.proofs.Cuts.{few_not, sum_of, cut_kept, cut_not, cut_out_past, cut_out_not, cut_out_kept, set_last}
 use Rattle.frame_out.proofs.closes.close_of.Goals as goal
 
 pub returns-in_err-size : goal.returns-in_err-size
-unfolding answer_of
 returns-in_err-size c =
-    let p = err_from_is_err_and c.from_residual.result c.from_residual.ensures.1 in
     let few : length (take (length c.args.vals.now - 1) c.args.vals.now) ≤ 3 = simp length-take (omega arith) in
     let k = few_not _ _ _ few c.vars_len.ensures c.in_err-size.was in
-    rw (p.1, p.2, k.1) (written_no _ (cut_out_past _ _ _ k.0))
+    rw (exit_answer _ _ c.from_residual.ensures, k.1) (written_no _ (cut_out_past _ _ _ k.0))
 
 pub kept-requires : goal.kept-requires
 kept-requires c =
@@ -21,12 +18,10 @@ kept-requires c =
     omega (arith, h.long, vars_bound _ h.small)
 
 pub returns-in_err-len : goal.returns-in_err-len
-unfolding answer_of
 returns-in_err-len c =
-    let p = err_from_is_err_and c.from_residual-in_err-len.result c.from_residual-in_err-len.ensures.1 in
     let h = size_held _ _ _ c.vars_len.ensures _ c.in_ok-size.was in
     let k = cut_not _ _ _ _ c.kept.ensures _ c.in_err-len.was in
-    rw (p.1, p.2, k.1) (written_no _ (cut_out_not _ _ _ (sum_of h) k.0))
+    rw (exit_answer _ _ c.from_residual-in_err-len.ensures, k.1) (written_no _ (cut_out_not _ _ _ (sum_of h) k.0))
 
 pub slice_bounds-frame_of-end : goal.slice_bounds-frame_of-end
 slice_bounds-frame_of-end c =

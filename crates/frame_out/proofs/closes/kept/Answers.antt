@@ -1,5 +1,5 @@
 use Rattle.std.proofs.Common.{◌+◌, ap, arith, length, length-take}
-use Rattle.std.proofs.lemmas.Result.{err_from_is_err_and}
+use Rattle.ack.proofs.Tries.{exit_answer}
 use Rattle.coding.specs.Words.{no, ok}
 use Rattle.coding.specs.Varint.{var_size}
 use Rattle.coding.specs.Said.{answer_of}
@@ -10,10 +10,9 @@ use Rattle.frame_out.proofs.Cuts.{cut_past, cut_short, cut_some}
 use Rattle.frame_out.proofs.closes.kept.Goals as goal
 
 pub returns-in_err-all : goal.returns-in_err-all
-unfolding answer_of length_of
+unfolding length_of
 returns-in_err-all c =
-    let p = err_from_is_err_and c.from_residual.result c.from_residual.ensures.1 in
-    rw (p.1, p.2, cut_past _ _ _ (sized_not _ _ _ c.size.ensures c.in_err-all.was)) (ap no (sized_14 _ _ _ c.size.ensures c.in_err-all.was))
+    rw (exit_answer _ _ c.from_residual.ensures, cut_past _ _ _ (sized_not _ _ _ c.size.ensures c.in_err-all.was)) (ap no (sized_14 _ _ _ c.size.ensures c.in_err-all.was))
 
 pub overflow_add-all : goal.overflow_add-all
 overflow_add-all c =
