@@ -11,56 +11,61 @@ use lib.ListN.{length, drop, get_or, set, length-take}
 use lib.Seq.{drop-cons}
 use Rattle.std.proofs.lemmas.List.{append-nil, take-append-drop}
 use lib.Dec.{leb}
-use borrow.Author.Tests.{leb-true}
 use Rattle.coding.specs.Words.{cut, and_then}
 use Rattle.coding.specs.Bytes.{splice}
 use Rattle.coding.specs.Reading.{fixed_at}
-use Rattle.coding.specs.Said.{found_by}
-use Rattle.coding.specs.Writing.{Put}
+use Rattle.coding.specs.Said.{found_by, Reads}
+use Rattle.coding.specs.declared.reader.Reader.{Reader}
 use Rattle.coding.specs.declared.Place.{Place}
 use Rattle.coding.specs.declared.refusal.UnexpectedEnd.{UnexpectedEnd}
-use Rattle.coding.proofs.Laws.{length_splice}
 use Rattle.text.specs.Puts.{puts, put_one}
 use Rattle.text.proofs.Puts.{puts_more}
-use Rattle.cases.specs.Records.{sized_at, part_after, Counts, words_from}
+use Rattle.std.specs.Result.{result_unwrap_or}
+use Rattle.cases.specs.Records.{sized_at, nowhere, part_after, Counts, words_from}
 use Rattle.cases.specs.Lines.{and_num, and_nums}
 
 -- ---- parts of a record, one after the other
 
-module _ (s : List ℕ) (at left : ℕ) (r : Result Place UnexpectedEnd) (n : ℕ) (e : found_by (λ p. p) r n ≡ sized_at s at) where
-  pub after_more : (p : Place) → 0 < left → r ≡ Ok p → part_after left s at ≡ part_after (left - 1) s n
+module _ (left : ℕ) (old new : Reader) (r : Result Place UnexpectedEnd) (e : found_by (λ (p : Place). p) r new.at ≡ sized_at old.bytes.now old.at) where
+  pub after_more : new.bytes ≡ old.bytes → (p : Place) → 0 < left → r ≡ Ok p → part_after left old.bytes.now old.at ≡ part_after (left - 1) new.bytes.now new.at
   unfolding found_by part_after and_then
-  after_more p = go left
+  after_more same p = go left
     where
-      go : (k : ℕ) → 0 < k → r ≡ Ok p → part_after k s at ≡ part_after (k - 1) s n
+      go : (k : ℕ) → 0 < k → r ≡ Ok p → part_after k old.bytes.now old.at ≡ part_after (k - 1) new.bytes.now new.at
       go zero h q = absurd (not-suc-le-zero h)
       go (suc k) h q =
           let d : suc k - 1 ≡ k = omega arith in
-          rw (← e, q, d)
+          rw (← e, q, d, same)
 
-  pub after_cut : (end : UnexpectedEnd) → 0 < left → r ≡ Err end → part_after left s at ≡ cut
+  pub after_cut : (end : UnexpectedEnd) → 0 < left → r ≡ Err end → part_after left old.bytes.now old.at ≡ cut
   unfolding found_by part_after and_then
   after_cut end = go left
     where
-      go : (k : ℕ) → 0 < k → r ≡ Err end → part_after k s at ≡ cut
+      go : (k : ℕ) → 0 < k → r ≡ Err end → part_after k old.bytes.now old.at ≡ cut
       go zero h q = absurd (not-suc-le-zero h)
       go (suc k) h q = rw (← e, q)
 
+-- what a read of a part found, and the empty part where there is none
+pub found_part : (r : Result Place UnexpectedEnd) (next : ℕ) → result_unwrap_or r nowhere ≡ and_then (found_by (λ (p : Place). p) r next) nowhere (λ p n. p)
+unfolding and_then found_by
+found_part (Ok p) next = refl
+found_part (Err end) next = refl
+
 -- ---- numbers of 4 bytes, one after the other
 
-module _ (s : List ℕ) (at most n : ℕ) (list : List ℕ) (r : Result ℕ UnexpectedEnd) (next : ℕ) (e : found_by (λ (x : ℕ). x) r next ≡ fixed_at 4 s at) where
+module _ (most n : ℕ) (list : List ℕ) (old new : Reader) (r : Result ℕ UnexpectedEnd) (e : Reads (λ (x : ℕ). x) (fixed_at 4 old.bytes.now old.at) old r new) where
   pub words_more : (x : ℕ) → n < most → r ≡ Ok x
-      → words_from (most - n) s at (n, list) ≡ words_from (most - (n + 1)) s next (n + 1, set list n x)
+      → words_from (most - n) old.bytes.now old.at (n, list) ≡ words_from (most - (n + 1)) new.bytes.now new.at (n + 1, set list n x)
   unfolding found_by words_from and_then
   words_more x h q =
       let d : most - n ≡ suc (most - (n + 1)) = omega arith in
-      rw (d, ← e, q)
+      rw (d, ← e.finds, q, e.bytes)
 
-  pub words_cut : (end : UnexpectedEnd) → n < most → r ≡ Err end → words_from (most - n) s at (n, list) ≡ (n, list)
+  pub words_cut : (end : UnexpectedEnd) → n < most → r ≡ Err end → words_from (most - n) old.bytes.now old.at (n, list) ≡ (n, list)
   unfolding found_by words_from and_then
   words_cut end h q =
       let d : most - n ≡ suc (most - (n + 1)) = omega arith in
-      rw (d, ← e, q)
+      rw (d, ← e.finds, q)
 
 pub words_start : (most : ℕ) (s : List ℕ) (o : ℕ × List ℕ) → words_from most s 0 o ≡ words_from (most - 0) s 0 o
 words_start most s o =
@@ -71,26 +76,10 @@ pub words_none : (left : ℕ) (s : List ℕ) (at : ℕ) (o : ℕ × List ℕ) �
 unfolding words_from
 words_none left s at o e = rw e
 
--- ---- bytes at the start of a buffer
-
--- they are all put, or none
-put_all : {P : Type 0} (bs old : List ℕ) {n : ℕ} {new : List ℕ} → Put bs old 0 n new
-    → (length bs ≤ length old → n ≡ length bs → new ≡ splice old 0 bs → P) → (n ≡ 0 → new ≡ old → P) → P
-put_all {P} bs old {n} {new} p all none = go (leb (0 + length bs) (length old)) refl
-  where
-    go : (t : Bool) → leb (0 + length bs) (length old) ≡ t → P
-    go true e =
-        let h : 0 + length bs ≤ length old = leb-true _ _ e in
-        let k : n ≡ 0 + length bs = rw e at p.place in
-        all (omega arith) (omega arith) (rw e at p.bytes)
-    go false e = none (rw e at p.place) (rw e at p.bytes)
+-- ---- a count of a list's first elements
 
 pub counts : (n : ℕ) (l : List ℕ) → n ≤ length l → Counts n l
 counts n l h = (h, simp length-take (omega arith))
-
-pub put_counts : (bs old : List ℕ) {n : ℕ} {new : List ℕ} → Put bs old 0 n new → Counts n new
-put_counts bs old {n} {new} p =
-    put_all bs old p (λ h e f. counts n new (rw (e, f, length_splice old bs 0 (omega arith)) h)) (λ e f. counts n new (omega arith))
 
 -- ---- lines
 

@@ -1,4 +1,4 @@
--- The rules of a `search` at a return: for text after text.
+-- The rules of a `search` at a return: text after text.
 use mathlib.Core.List.{List, [], ◌∷◌}
 use Prim.Native.Nat.{ℕ}
 use Rattle.text.specs.Puts.{PutAll}

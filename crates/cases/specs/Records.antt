@@ -35,9 +35,12 @@ unfoldable pub part_after : ℕ → List ℕ → ℕ → Got Place
 part_after zero s at = sized_at s at
 part_after (suc j) s at = and_then (sized_at s at) cut (λ p next. part_after j s next)
 
+abbrev pub nowhere : Place
+nowhere = record { start = 0; len = 0 }
+
 -- part j of a record; the empty part where it has none
 unfoldable pub part_in : List ℕ → ℕ → Place
-part_in s j = and_then (part_after j s 48) (record { start = 0; len = 0 }) (λ p next. p)
+part_in s j = and_then (part_after j s 48) nowhere (λ p next. p)
 
 -- byte i of a part; 0 where it has none
 unfoldable pub byte_in : List ℕ → ℕ → ℕ

@@ -1,4 +1,6 @@
 // The text of answers: each put goes where the text so far ends. What does not fit is left out.
+#![tactic(auto, unfolding(crate::specs::Lines::hex_word, crate::specs::Lines::and_num, crate::specs::Lines::and_some, crate::specs::Lines::and_hex, crate::specs::Lines::nums, crate::specs::Lines::end_word, crate::specs::Lines::end_line, crate::specs::Said::case_of, crate::specs::Said::word_of, crate::specs::Said::numbers_of, crate::specs::Said::answer_line, crate::specs::Said::written_of, crate::specs::Said::is_bad, crate::specs::Said::wrote_line))]
+
 ghost use Rattle.std.specs.Prelude.{◌≡◌, [], ◌∷◌, Ok};
 ghost use Rattle.coding.specs.Places.{part_of};
 ghost use Rattle.text.specs.Decimal.{decimal};

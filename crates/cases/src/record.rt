@@ -1,11 +1,12 @@
 // The records of an input. Each is its operation's number, its length in 3 bytes, and its fields: six numbers of 8 bytes, then
 // its parts, each after its length in 3 bytes. A number or a part that a record does not have reads as 0, and as none.
-#![tactic(auto, unfolding(coding::specs::Words::and_then, coding::specs::Said::found_by, crate::specs::Records::head_in, crate::specs::Records::sized_at, crate::specs::Records::number_in, crate::specs::Records::byte_in, crate::specs::Said::case_of))]
+#![tactic(auto, unfolding(coding::specs::Words::and_then, coding::specs::Said::found_by, crate::specs::Records::head_in, crate::specs::Records::sized_at, crate::specs::Records::number_in, crate::specs::Records::numbers_in, crate::specs::Records::byte_in, crate::specs::Records::five_in, crate::specs::Said::case_of))]
 
 ghost use Rattle.std.specs.Prelude.{◌≡◌, ◌%◌};
+ghost use Rattle.std.specs.Result.{result_unwrap_or};
 ghost use Rattle.coding.specs.Places.{Part, start_of, part_of};
 ghost use Rattle.coding.specs.Said.{found_by};
-ghost use Rattle.cases.specs.Records.{head_in, sized_at, number_in, numbers_in, part_in, byte_in, five_in, Laid, Listed};
+ghost use Rattle.cases.specs.Records.{head_in, sized_at, number_in, numbers_in, nowhere, part_in, byte_in, five_in, Laid, Listed};
 ghost use Rattle.cases.specs.Said.{case_of};
 
 use coding::{Place, Reader, UnexpectedEnd, part, put_slice};
@@ -87,26 +88,24 @@ pub fn word(n: u64) -> u32
 }
 
 // The place of part j of a record.
-fn place(rec: &[u8], j: u8) -> Place
-    ensures { result ≡ part_in rec.now j }
+fn place(rec: &[u8], j: u8) -> Result<Place, UnexpectedEnd>
+    ensures { result_unwrap_or result nowhere ≡ part_in rec.now j }
 {
     let mut r = Reader { bytes: rec, at: 48 };
     for _ in 0..j {
-        let Ok(_) = sized(&mut r) else {
-            return Place { start: 0, len: 0 };
-        };
+        sized(&mut r)?;
     }
-    let Ok(p) = sized(&mut r) else {
-        return Place { start: 0, len: 0 };
-    };
-    p
+    sized(&mut r)
 }
+
+// A part of no bytes.
+const NOWHERE: Place = Place { start: 0, len: 0 };
 
 // Part j of a record.
 pub fn bytes(rec: &[u8], j: u8) -> &[u8]
     ensures { Part rec.entry result (start_of rec.now (part_in rec.now j)) (part_of rec.now (part_in rec.now j)) }
 {
-    part(rec, place(rec, j))
+    part(rec, place(rec, j).unwrap_or(NOWHERE))
 }
 
 // Byte i of a part.

@@ -1,6 +1,8 @@
 // A replay program's standard input and output. It reads packed cases until the input ends and prints an answer to each, a line
 // for a case. The last line is `end` and the count; where the input stops within a record, or one is longer than the buffer, it is
 // `stopped` after a BAD RECORD. oracle/ has the records' form and what the Rust answers.
+#![tactic(auto, unfolding(crate::specs::Said::case_of, crate::specs::Stdio::fields_in))]
+
 ghost use Rattle.std.specs.Prelude.{◌≡◌, ◌≤◌, length};
 ghost use Rattle.cases.specs.Said.{case_of};
 ghost use Rattle.cases.specs.Stdio.{Zeros, fields_in};

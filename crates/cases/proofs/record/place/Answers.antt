@@ -1,45 +1,28 @@
-use Rattle.cases.specs.Records.{part_after, part_in}
-use Rattle.cases.proofs.Laws.{after_more, after_cut}
+use Rattle.std.proofs.lemmas.Result.{err_from_is_err_and}
+use Rattle.cases.specs.Records.{nowhere, part_after, part_in}
+use Rattle.cases.proofs.Laws.{after_more, after_cut, found_part}
 use Prim.Native.Nat.{◌+◌, ◌-◌}
-use mathlib.Core.Path.{◌≡◌, refl, ap, ◌∙◌}
+use mathlib.Core.Path.{◌≡◌, ◌∙◌, ap}
 use native.Mathlib.Omega.{arith}
-use Rattle.std.proofs.Common.{ℕ, List, Bor}
 use Rattle.coding.specs.Words.{and_then}
-use Rattle.coding.specs.Said.{found_by}
 use Rattle.cases.proofs.record.place.Goals as goal
 
-pub loop-init : goal.loop-init
-loop-init c =
-    let e : c.args.j - 0 ≡ c.args.j = omega arith in
-    (refl, rw e)
-
-pub returns-in_default : goal.returns-in_default
+pub returns-in_err-sized : goal.returns-in_err-sized
 unfolding part_in and_then
-returns-in_default c =
+returns-in_err-sized c =
     let l = c.loop in
-    let found = rw l.invariant.0 at c.sized.ensures.finds in
-    rw (l.invariant.1, after_cut _ l.r.at (c.args.j - l.counter) _ _ found _ (omega arith) c.in_default.is)
+    let p = err_from_is_err_and c.from_residual.result c.from_residual.ensures.1 in
+    rw (p.1, l.invariant, after_cut (c.args.j - l.counter) l.r c.sized.new.r _ c.sized.ensures.finds _ (omega arith) c.in_err-sized.was)
 
 pub loop-preserved : goal.loop-preserved
 loop-preserved c =
     let l = c.loop in
     let e : c.args.j - l.counter - 1 ≡ c.args.j - (l.counter + 1) = omega arith in
-    let found = rw l.invariant.0 at c.sized.ensures.finds in
-    let same = ap (λ (b : Bor (List ℕ)). b.now) c.sized.ensures.bytes ∙ l.invariant.0 in
-    (same, rw (← e) (l.invariant.1 ∙ after_more _ l.r.at (c.args.j - l.counter) _ _ found _ (omega arith) c.in-Ok.is))
-
-pub returns-in_default-sized : goal.returns-in_default-sized
-unfolding part_in part_after and_then found_by
-returns-in_default-sized c =
-    let l = c.loop in
-    let e : c.args.j - l.counter ≡ 0 = omega arith in
-    let found = rw (l.invariant.0, c.in_default-sized.is) at c.sized-2.ensures.finds in
-    rw (l.invariant.1, e, ← found)
+    rw (← e) (l.invariant ∙ after_more (c.args.j - l.counter) l.r c.sized.new.r _ c.sized.ensures.finds c.sized.ensures.bytes _ (omega arith) c.in_ok-sized.was)
 
 pub returns : goal.returns
-unfolding part_in part_after and_then found_by
+unfolding part_in part_after
 returns c =
     let l = c.loop in
     let e : c.args.j - l.counter ≡ 0 = omega arith in
-    let found = rw (l.invariant.0, c.in-Ok-sized.is) at c.sized-2.ensures.finds in
-    rw (l.invariant.1, e, ← found)
+    rw (l.invariant, e) (found_part _ _ ∙ ap (λ g. and_then g nowhere (λ p n. p)) c.sized-2.ensures.finds)

@@ -6,6 +6,4 @@ use Rattle.cases.proofs.record.words.Given as goal
 
 -- Each number goes to its place.
 abbrev pub invariant-loop-n : goal.invariant-loop-n
-invariant-loop-n l =
-    (l.r.bytes.now ≡ l.bytes)
-    × (words_from (length l.initial.list) l.bytes 0 (0, l.initial.list) ≡ words_from (length l.initial.list - l.n) l.bytes l.r.at (l.n, l.list))
+invariant-loop-n l = words_from (length l.initial.list) l.bytes 0 (0, l.initial.list) ≡ words_from (length l.initial.list - l.n) l.r.bytes.now l.r.at (l.n, l.list)

@@ -3,9 +3,6 @@ use Rattle.cases.specs.Said.{word_of, numbers_of, answer_line}
 use Rattle.cases.proofs.Rules.{told_on}
 use Rattle.cases.proofs.line.Out.say.Goals as goal
 
-pub returns-in-Ok : goal.returns-in-Ok
-returns-in-Ok c = rw c.in-Ok.is c.answer.ensures
-
 pub returns-in-Err : goal.returns-in-Err
 unfolding answer_line word_of numbers_of and_nums and_num
 returns-in-Err c =

@@ -5,7 +5,3 @@ use Rattle.cases.proofs.line.Out.wrote.Goals as goal
 pub returns-then-not-is_bad : goal.returns-then-not-is_bad
 unfolding wrote_line
 returns-then-not-is_bad c = rw (← c.is_bad.ensures, c.if-not-is_bad.true) (search lines depth 40 fits 4000)
-
-pub returns-else-not-is_bad : goal.returns-else-not-is_bad
-unfolding wrote_line
-returns-else-not-is_bad c = rw (← c.is_bad.ensures, c.if-not-is_bad.false) c.say.ensures
