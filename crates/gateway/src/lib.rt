@@ -38,7 +38,7 @@ pub fn guobbarel_split(
     match arguments::flag_of(grease) {
         Ok(grease) => packets::step_record(
             at,
-            packet::step(datagram, at, local_cid_len, versions, grease),
+            &packet::step(datagram, at, local_cid_len, versions, grease),
         ),
         Err(why) => packets::no_packet(Some(why), at),
     }

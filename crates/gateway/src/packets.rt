@@ -16,7 +16,7 @@ use crate::arguments;
 use crate::records::{SampleAnswer, SplitAnswer, UnmaskAnswer};
 use coding::{Place, Refusal};
 use gateway_frame::Span;
-use packet::{Decoded, LongType, ProtectedHeader, StepError, Stepped};
+use packet::{LongType, ProtectedHeader, StepError, Stepped};
 use protect::Finished;
 use shared::CutNumber;
 
@@ -124,27 +124,11 @@ pub(crate) fn no_packet(why: Option<Refusal>, start: usize) -> SplitAnswer
     }
 }
 
-// A packet of the datagram.
-fn packet_record(x: Stepped) -> SplitAnswer
-    ensures { result ≡ split_record x.packet.start x.packet.len (decoded_of x.plain_header) }
+// A packet of the datagram; by reference, as all that a step says, since it is long.
+fn packet_record(x: &Stepped) -> SplitAnswer
+    ensures { result ≡ split_record x.now.packet.start x.now.packet.len (decoded_of x.now.plain_header) }
 {
-    let Stepped {
-        packet,
-        plain_header: plain,
-    } = x;
-    let (dst_cid, src_cid) = if plain.has_long_header() {
-        long_cids(plain.dst_cid.len, plain.src_cid.len)
-    } else {
-        // a short header's stands past the first byte, and there is no source
-        let len = usize::from(plain.dst_cid.len);
-        (Span { start: 1, len }, NOWHERE)
-    };
-    let Decoded {
-        header,
-        version,
-        number_offset,
-        ..
-    } = plain;
+    let plain = &x.plain_header;
     let HeaderNumbers {
         refusal,
         kind,
@@ -152,15 +136,22 @@ fn packet_record(x: Stepped) -> SplitAnswer
         random,
         length,
         token,
-    } = HeaderNumbers::from(header);
+    } = HeaderNumbers::from(plain.header);
+    let (dst_cid, src_cid) = if plain.has_long_header() {
+        long_cids(plain.dst_cid.len, plain.src_cid.len)
+    } else {
+        // a short header's stands past the first byte, and there is no source
+        let len = usize::from(plain.dst_cid.len);
+        (Span { start: 1, len }, NOWHERE)
+    };
     SplitAnswer {
         refusal,
         kind,
         spin,
         random,
-        version,
-        packet: span(packet),
-        number_offset,
+        version: plain.version,
+        packet: span(x.packet),
+        number_offset: plain.number_offset,
         length,
         token,
         dst_cid,
@@ -169,13 +160,13 @@ fn packet_record(x: Stepped) -> SplitAnswer
 }
 
 // A refusal at a place of the datagram; of the refusals that of a version alone has connection ids.
-fn refused_record(x: StepError) -> SplitAnswer
-    ensures { result ≡ split_record x.start 0 (error_of x.why) }
+fn refused_record(x: &StepError) -> SplitAnswer
+    ensures { result ≡ split_record x.now.start 0 (error_of x.now.why) }
 {
-    let StepError { start, why } = x;
+    let why = &x.why;
     let refusal = why.refusal();
     let version = why.version();
-    let none = no_packet(Some(refusal), start);
+    let none = no_packet(Some(refusal), x.start);
     if refusal != Refusal::Version {
         return SplitAnswer { version, ..none };
     }
@@ -189,8 +180,8 @@ fn refused_record(x: StepError) -> SplitAnswer
 }
 
 // What a step of the walk at a place says.
-pub(crate) fn step_record(at: usize, x: Result<Option<Stepped>, StepError>) -> SplitAnswer
-    ensures { result ≡ step_record at (packet_step_of x) }
+pub(crate) fn step_record(at: usize, x: &Result<Option<Stepped>, StepError>) -> SplitAnswer
+    ensures { result ≡ step_record at (packet_step_of x.now) }
 {
     match x {
         Ok(Some(x)) => packet_record(x),
