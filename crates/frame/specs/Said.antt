@@ -1,12 +1,11 @@
 -- What each case of the code's answers says, in document 01's numbers and values.
-use Rattle.std.specs.Prelude.{ℕ, ◌≡◌, List, [], ◌∷◌, Option, Some, None, Result, Ok, Err}
+use Rattle.std.specs.Prelude.{ℕ, List, [], ◌∷◌, Option, Some, None, Result, Ok, Err}
 use Rattle.std.proofs.Math.Option as math
 use Rattle.coding.specs.Words.{Got, cut, got, and_then}
 use Rattle.coding.specs.Varint.{var_at}
 use Rattle.coding.specs.Refusals.{number_of}
 use Rattle.coding.specs.declared.Place.{Place}
 use Rattle.coding.specs.declared.refusal.Refusal.{Refusal}
-use Rattle.coding.specs.declared.refusal.Refusal.TheVariants as refusal
 use Rattle.shared.specs.Said.{dir_bit}
 use Rattle.shared.specs.declared.kinds.FrameType.{FrameType}
 use Rattle.ecn.specs.declared.EcnCounts.{EcnCounts}
@@ -80,15 +79,6 @@ counts_at s at =
     and_then (var_at s p) cut (λ ect1 q.
     and_then (var_at s q) cut (λ ce n.
     got (record { ect0 = ect0; ect1 = ect1; ce = ce }) n)))
-
--- the answer of a frame that is made of a value which was read up to `past`, or of two, one after the other
-abbrev pub MadeOf : {A : Type 0} → (A → Frame → Type 0) → Got A → Result Frame Refusal → ℕ → Type 0
-MadeOf makes (got a n) r past = (f : Frame) × makes a f × (r ≡ Ok f) × (past ≡ n)
-MadeOf makes cut r past = r ≡ Err refusal.UnexpectedEnd
-
-abbrev pub MadeOfTwo : {A B : Type 0} → (A → B → Frame → Type 0) → Got A → (ℕ → Got B) → Result Frame Refusal → ℕ → Type 0
-MadeOfTwo makes (got a n) next r past = MadeOf (makes a) (next n) r past
-MadeOfTwo makes cut next r past = r ≡ Err refusal.UnexpectedEnd
 
 unfoldable pub said_of : Result FrameRead InvalidFrame → FrameOutcome
 said_of (Ok r) = taken r.ty.0 (frame_said r.frame) r.next

@@ -4,7 +4,7 @@
 ghost use Rattle.std.specs.Prelude.{◌≡◌, ◌<◌, ◌≤◌, length};
 ghost use Rattle.coding.specs.Words.{max_datagram, number_end};
 ghost use Rattle.coding.specs.Said.{found_by, var_value};
-ghost use Rattle.frame.specs.Format.{bytes_at, all_left_at, cid_at, blocks_at, var_if, data_if, bit};
+ghost use Rattle.frame.specs.Format.{bytes_at, all_left_at, cid_at, blocks_at, var_if, data_if};
 ghost use Rattle.frame.specs.Said.{field_of};
 
 use coding::{Place, Reader, Refusal, UnexpectedEnd, VarInt};
@@ -53,14 +53,6 @@ pub(crate) fn ack_blocks(r: &mut Reader, largest: FullNumber) -> Result<Place, R
         start,
         len: r.at - start,
     })
-}
-
-// A bit of the type.
-pub(crate) fn has(ty: u64, b: u64) -> bool
-    requires { 0 < b }
-    ensures { result ≡ bit b ty }
-{
-    ty / b % 2 == 1
 }
 
 // An integer if it is there, else 0.
