@@ -132,7 +132,6 @@ module _ (p : Plain) (dst src : ConnectionId) (token payload : List ℕ) (local 
 -- ---- by the kind that is given
 
 has_token_law : (c : CutNumber) (v : ℕ) → (shape_by bits_of (initial c v)).has_token ≡ true
-unfolding shape_by
 has_token_law c v = refl
 
 -- a flag is 1 or 0
