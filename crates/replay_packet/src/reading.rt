@@ -10,13 +10,13 @@ const MOST_STEPS: usize = 70_000;
 
 // How a datagram is read: the local CID's length, the versions, and whether there is grease.
 #[derive(Clone, Copy)]
-struct Reader<'a> {
+struct Reading<'a> {
     local: usize,
     versions: &'a [u32],
     grease: bool,
 }
 
-impl Reader<'_> {
+impl Reading<'_> {
     fn decode(self, s: &[u8]) -> Result<Decoded, PacketDecodeError> {
         packet::decode(s, self.local, self.versions, self.grease)
     }
@@ -30,21 +30,21 @@ impl Reader<'_> {
     }
 }
 
-// An operation on a datagram that takes a reader; there is room for more versions than the rule allows.
+// An operation on a datagram, with how it is read; there is room for more versions than the rule allows.
 pub(crate) fn asked(op: u8, rec: &[u8], out: &mut Out) {
     let ns = record::numbers_of(rec);
     let mut list = [0; 32];
     let n = record::words(record::bytes(rec, 0), &mut list);
-    let reader = Reader {
+    let how = Reading {
         local: ns.n0 as usize,
         versions: &list[..n],
         grease: ns.n1 == 1,
     };
     let s = record::bytes(rec, 1);
     match op {
-        32 => split(reader, s, out),
-        33 => walk(reader, s, out),
-        _ => header::put(reader.decode(s), out),
+        32 => split(how, s, out),
+        33 => walk(how, s, out),
+        _ => header::put(how.decode(s), out),
     }
 }
 
@@ -59,19 +59,11 @@ fn and_parts(packet: PartialDecode, s: &[u8], out: &mut Out) {
     out.and_hex(packet.token(data));
 }
 
-fn split(reader: Reader<'_>, s: &[u8], out: &mut Out) {
-    let packet = reader.split(s);
+fn split(how: Reading<'_>, s: &[u8], out: &mut Out) {
+    let packet = how.split(s);
     header::put(packet.map(|packet| packet.plain_header), out);
     if let Ok(packet) = packet {
         and_parts(packet, s, out);
-    }
-}
-
-// The place past n bytes from a place on.
-fn past(s: &[u8], at: usize, n: usize) -> usize {
-    match (coding::Reader { bytes: s, at }).take(n as u64) {
-        Ok(Place { start, len }) => start + len,
-        Err(_) => s.len(),
     }
 }
 
@@ -84,13 +76,13 @@ fn put_packet(packet: Place, plain: Decoded, out: &mut Out) {
     out.put(b"; ");
 }
 
-fn walk(reader: Reader<'_>, s: &[u8], out: &mut Out) {
+fn walk(how: Reading<'_>, s: &[u8], out: &mut Out) {
     let mut at = 0;
     for _ in 0..MOST_STEPS {
-        match reader.step(s, at) {
+        match how.step(s, at) {
             Ok(Some(step)) => {
                 put_packet(step.packet, step.plain_header, out);
-                at = past(s, step.packet.start, step.packet.len);
+                at = step.packet.start.saturating_add(step.packet.len);
             }
             Ok(None) => {
                 out.put(b"end");
@@ -125,7 +117,7 @@ pub(crate) fn dump(rec: &[u8], out: &mut Out) {
                     *c = b';';
                 }
             }
-            out.at = past(&out.text, at, n);
+            out.at = at.saturating_add(n);
         }
         Err(why) => out.say(Err(why)),
     }
