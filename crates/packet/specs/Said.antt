@@ -1,5 +1,5 @@
 -- What each answer of the code says, in document 01's numbers and values.
-use Rattle.std.specs.Prelude.{ℕ, Result, Ok, Err, Some, None}
+use Rattle.std.specs.Prelude.{ℕ, List, Result, Ok, Err, Some, None}
 use Rattle.std.specs.Prelude.{Option as Maybe}
 use Rattle.std.proofs.Math.Option.{Option, none, some}
 use Rattle.coding.specs.Words.{no, ok}
@@ -7,7 +7,7 @@ use Rattle.coding.specs.Refusals.{number_of}
 use Rattle.packet.specs.TypeBits.{PacketType}
 use Rattle.packet.specs.TypeBits as type
 use Rattle.packet.specs.Header.{Header, initial, zero_rtt, handshake, retry, short, negotiate, Outcome, refused_header}
-use Rattle.packet.specs.Split.{Split, no_packet}
+use Rattle.packet.specs.Split.{Split, cut_at, no_packet}
 use Rattle.packet.specs.Walk.{at_end, packet, refused_at, PacketStep}
 use Rattle.packet.specs.declared.error.PacketDecodeError.{PacketDecodeError}
 use Rattle.packet.specs.declared.error.PacketDecodeError.TheVariants as error
@@ -69,6 +69,11 @@ outcome_of (Err e) = error_of e
 unfoldable pub tail_of : (Header → ℕ → Outcome) → Result ProtectedHeader PacketDecodeError → ℕ → Outcome
 tail_of made (Ok h) end = made (header_of h) end
 tail_of made (Err e) end = error_of e
+
+-- a packet that ends there; one whose Length is past the datagram's end is refused 7
+unfoldable pub ended_of : Maybe ℕ → Outcome → List ℕ → Split
+ended_of (Some n) h s = cut_at h s n
+ended_of None h s = no_packet (refused_header 7)
 
 unfoldable pub partial_of : PartialDecode → Split
 partial_of d = record { header = decoded_of d.plain_header; packet = d.packet; rest = option_of d.rest }

@@ -1,11 +1,12 @@
 // The first packet of a datagram, and the rest (packet.rs, PartialDecode::new; RFC 9000, 12.2).
-#![tactic(auto, using(crate::proofs::Cases::error_says), unfolding(coding::specs::Words::and_then, coding::specs::Said::found_by, crate::specs::Split::rest_at, crate::specs::Split::cut_at, crate::specs::Split::split_by, crate::specs::Split::split_on, crate::specs::Split::split_with, crate::specs::Said::decoded_of, crate::specs::Said::outcome_of, crate::specs::Said::partial_of, crate::specs::Said::split_of))]
+#![tactic(auto, using(crate::proofs::Cases::error_says), unfolding(coding::specs::Words::and_then, coding::specs::Said::found_by, crate::specs::Split::rest_at, crate::specs::Split::cut_at, crate::specs::Split::split_by, crate::specs::Split::split_on, crate::specs::Split::split_with, crate::specs::Said::decoded_of, crate::specs::Said::ended_of, crate::specs::Said::outcome_of, crate::specs::Said::partial_of, crate::specs::Said::split_of))]
 
 ghost use Rattle.std.specs.Prelude.{◌≡◌};
 ghost use Rattle.coding.specs.Words.{ok};
 ghost use Rattle.coding.specs.Places.{Part, start_of, part_of};
-ghost use Rattle.packet.specs.Split.{rest_at, cut_at, split_at, token_in, rest_in};
-ghost use Rattle.packet.specs.Said.{header_of, decoded_of, option_of, partial_of, split_of};
+ghost use Rattle.packet.specs.Header.{length_in};
+ghost use Rattle.packet.specs.Split.{rest_at, cut_at, split_by, split_at, token_in, rest_in};
+ghost use Rattle.packet.specs.Said.{header_of, decoded_of, option_of, ended_of, partial_of, split_of};
 
 use crate::{Decoded, PacketDecodeError, ProtectedHeader};
 use coding::{Place, Reader, Refusal};
@@ -44,7 +45,22 @@ fn cut_at(plain_header: Decoded, s: &[u8], n: usize) -> PartialDecode
     }
 }
 
-// Begin decoding a packet, and where the datagram goes on. With a Length it ends so many bytes past its header.
+// Where a packet ends: with a Length so many bytes past its header, else with the datagram.
+pub(crate) fn end_of(plain: &Decoded, s: &[u8]) -> Option<usize>
+    ensures { ended_of result (decoded_of plain.now) s.now ≡ split_by (length_in (decoded_of plain.now).said) s.now (decoded_of plain.now) }
+{
+    let Some(len) = plain.payload_len() else {
+        return Some(s.len());
+    };
+    let mut r = Reader {
+        bytes: s,
+        at: plain.number_offset,
+    };
+    r.take(len).ok()?;
+    Some(r.at)
+}
+
+// Begin decoding a packet, and where the datagram goes on.
 pub fn split(
     s: &[u8],
     local: usize,
@@ -54,17 +70,10 @@ pub fn split(
     ensures { split_of result ≡ split_at s.now local versions.now grease }
 {
     let plain = crate::decode(s, local, versions, grease)?;
-    let Some(len) = plain.payload_len() else {
-        return Ok(cut_at(plain, s, s.len()));
-    };
-    let mut r = Reader {
-        bytes: s,
-        at: plain.number_offset,
-    };
-    let Ok(_) = r.take(len) else {
+    let Some(end) = end_of(&plain, s) else {
         return Err(PacketDecodeError::Refused(Refusal::Length));
     };
-    Ok(cut_at(plain, s, r.at))
+    Ok(cut_at(plain, s, end))
 }
 
 // The token's place, or an empty one.

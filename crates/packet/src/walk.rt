@@ -1,5 +1,5 @@
 // One packet after the other: a step that the caller repeats (RFC 9000, 12.2).
-#![tactic(auto, using(crate::proofs::Cases::error_says, crate::proofs::Cases::from_on), unfolding(crate::specs::Split::no_packet, crate::specs::Walk::met_on, crate::specs::Walk::step_on, crate::specs::Walk::stop_at, crate::specs::Walk::packet_step_at, crate::specs::Said::decoded_of, crate::specs::Said::partial_of, crate::specs::Said::split_of, crate::specs::Said::packet_step_of))]
+#![tactic(auto, using(crate::proofs::Cases::error_says, crate::proofs::Cases::from_on), unfolding(crate::specs::Split::no_packet, crate::specs::Split::cut_at, crate::specs::Split::split_on, crate::specs::Split::split_with, crate::specs::Said::ended_of, crate::specs::Said::outcome_of, crate::specs::Walk::met_on, crate::specs::Walk::step_on, crate::specs::Walk::stop_at, crate::specs::Walk::packet_step_at, crate::specs::Said::decoded_of, crate::specs::Said::partial_of, crate::specs::Said::split_of, crate::specs::Said::packet_step_of))]
 
 ghost use Rattle.std.specs.Prelude.{◌≡◌};
 ghost use Rattle.packet.specs.Walk.{packet_step_at};
@@ -47,14 +47,20 @@ pub fn step(
     if s.len() <= at {
         return Ok(None);
     }
-    match crate::split(&s[at..], local, versions, grease) {
-        Ok(part) => Ok(Some(Stepped {
-            packet: Place {
-                start: at,
-                len: part.len(),
-            },
-            plain_header: part.plain_header,
-        })),
+    let rest = &s[at..];
+    match crate::decode(rest, local, versions, grease) {
+        Ok(plain_header) => {
+            let Some(len) = crate::partial::end_of(&plain_header, rest) else {
+                return Err(StepError {
+                    start: at,
+                    why: PacketDecodeError::Refused(Refusal::Length),
+                });
+            };
+            Ok(Some(Stepped {
+                packet: Place { start: at, len },
+                plain_header,
+            }))
+        }
         Err(why) => Err(StepError { start: at, why }),
     }
 }
