@@ -1,12 +1,24 @@
 -- Only one answer, and only one content of a lent buffer, meets the contract of each public function.
-use mathlib.Core.Path.{◌≡◌, ◌∙◌, sym, ap}
+use mathlib.Core.Path.{◌≡◌, refl, ◌∙◌, sym, ap}
 use mathlib.Core.List.{List}
 use Prim.Native.Nat.{ℕ}
 use mir.Syntax.{Dict}
 use denote.Ref.{Bor}
-use denote.Param.Laws.{Laws}
+use denote.Builtin.{u8, u16, u32, u64}
+use denote.Struct.Field.{u8-field, u16-field, u32-field, u64-field}
+use denote.Struct.Laws.{u8-laws, u16-laws, u32-laws, u64-laws, u8-copy, u16-copy, u32-copy, u64-copy}
+use denote.Param.Shared.{copy_shared}
+use denote.Param.Laws.{Laws, of_field}
 use denote.RattleType.{RattleType}
 use Rattle.coding.specs.declared.codec.Codec
+use Rattle.coding.specs.contracts.codec.U8Codec.TheImpl as u8_codec
+use Rattle.coding.specs.contracts.codec.U8Codec.TheImpl.Laws as u8_codec_laws
+use Rattle.coding.specs.contracts.codec.U16Codec.TheImpl as u16_codec
+use Rattle.coding.specs.contracts.codec.U16Codec.TheImpl.Laws as u16_codec_laws
+use Rattle.coding.specs.contracts.codec.U32Codec.TheImpl as u32_codec
+use Rattle.coding.specs.contracts.codec.U32Codec.TheImpl.Laws as u32_codec_laws
+use Rattle.coding.specs.contracts.codec.U64Codec.TheImpl as u64_codec
+use Rattle.coding.specs.contracts.codec.U64Codec.TheImpl.Laws as u64_codec_laws
 use Rattle.coding.specs.Words.{Answer}
 use Rattle.coding.specs.Once.{Once}
 use Rattle.coding.specs.Places.{Part}
@@ -139,3 +151,40 @@ module _ (T : RattleType) (laws : Laws T) (g : Codec.Ghosts T.Denot) (d : Dict) 
   put_once : Once {B = ℕ × List ℕ} (put.ended T g d) (put_reads.Post T laws g d) (λ κs x s. (x, s.0.now))
   unfolding Once
   put_once κs a x y s t p q = one_put _ _ _ x y _ _ p q
+
+-- at the integers of a known length, where each impl proves that law
+u8_laws : Laws u8
+u8_laws = of_field u8-field u8-laws refl (copy_shared u8-field u8-copy)
+
+u16_laws : Laws u16
+u16_laws = of_field u16-field u16-laws refl (copy_shared u16-field u16-copy)
+
+u32_laws : Laws u32
+u32_laws = of_field u32-field u32-laws refl (copy_shared u32-field u32-copy)
+
+pub u64_laws : Laws u64
+u64_laws = of_field u64-field u64-laws refl (copy_shared u64-field u64-copy)
+
+get_u8_once : Once {B = Result ℕ UnexpectedEnd × Reader} (get.ended u8 u8_codec.ghosts u8_codec.dict) (get_reads.Post u8 u8_laws u8_codec.ghosts u8_codec.dict) (λ κs x s. (x, s.0.now))
+get_u8_once = get_once u8 u8_laws u8_codec.ghosts u8_codec.dict u8_codec_laws.one-law
+
+get_u16_once : Once {B = Result ℕ UnexpectedEnd × Reader} (get.ended u16 u16_codec.ghosts u16_codec.dict) (get_reads.Post u16 u16_laws u16_codec.ghosts u16_codec.dict) (λ κs x s. (x, s.0.now))
+get_u16_once = get_once u16 u16_laws u16_codec.ghosts u16_codec.dict u16_codec_laws.one-law
+
+get_u32_once : Once {B = Result ℕ UnexpectedEnd × Reader} (get.ended u32 u32_codec.ghosts u32_codec.dict) (get_reads.Post u32 u32_laws u32_codec.ghosts u32_codec.dict) (λ κs x s. (x, s.0.now))
+get_u32_once = get_once u32 u32_laws u32_codec.ghosts u32_codec.dict u32_codec_laws.one-law
+
+get_u64_once : Once {B = Result ℕ UnexpectedEnd × Reader} (get.ended u64 u64_codec.ghosts u64_codec.dict) (get_reads.Post u64 u64_laws u64_codec.ghosts u64_codec.dict) (λ κs x s. (x, s.0.now))
+get_u64_once = get_once u64 u64_laws u64_codec.ghosts u64_codec.dict u64_codec_laws.one-law
+
+put_u8_once : Once {B = ℕ × List ℕ} (put.ended u8 u8_codec.ghosts u8_codec.dict) (put_reads.Post u8 u8_laws u8_codec.ghosts u8_codec.dict) (λ κs x s. (x, s.0.now))
+put_u8_once = put_once u8 u8_laws u8_codec.ghosts u8_codec.dict u8_codec_laws.one-law
+
+put_u16_once : Once {B = ℕ × List ℕ} (put.ended u16 u16_codec.ghosts u16_codec.dict) (put_reads.Post u16 u16_laws u16_codec.ghosts u16_codec.dict) (λ κs x s. (x, s.0.now))
+put_u16_once = put_once u16 u16_laws u16_codec.ghosts u16_codec.dict u16_codec_laws.one-law
+
+put_u32_once : Once {B = ℕ × List ℕ} (put.ended u32 u32_codec.ghosts u32_codec.dict) (put_reads.Post u32 u32_laws u32_codec.ghosts u32_codec.dict) (λ κs x s. (x, s.0.now))
+put_u32_once = put_once u32 u32_laws u32_codec.ghosts u32_codec.dict u32_codec_laws.one-law
+
+put_u64_once : Once {B = ℕ × List ℕ} (put.ended u64 u64_codec.ghosts u64_codec.dict) (put_reads.Post u64 u64_laws u64_codec.ghosts u64_codec.dict) (λ κs x s. (x, s.0.now))
+put_u64_once = put_once u64 u64_laws u64_codec.ghosts u64_codec.dict u64_codec_laws.one-law

@@ -76,15 +76,17 @@ pub fn put<T: Codec>(buf: &mut [u8], at: usize, x: T) -> usize
     x.put(buf, at)
 }
 
+// Byte by byte: copy_from_slice is a call of C's memmove, and the archive for C calls nothing that whoever links it has to have.
 pub fn put_slice(buf: &mut [u8], at: usize, bytes: &[u8]) -> usize
     ensures { Put bytes.now buf.old at result buf.new }
 {
     if buf.len() < at || buf.len() - at < bytes.len() {
         return at;
     }
-    let next = at + bytes.len();
-    buf[at..next].copy_from_slice(bytes);
-    next
+    for (i, b) in bytes.iter().enumerate() {
+        buf[at + i] = *b;
+    }
+    at + bytes.len()
 }
 
 // Puts x in its shortest form; from 2^62 on there is none, and nothing is put.

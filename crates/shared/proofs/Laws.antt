@@ -1,25 +1,22 @@
 -- Laws of the definitions, for this crate's proofs and those above it.
-use Rattle.std.specs.Prelude.{if◌then◌else◌}
 use mathlib.Core.Path.{◌≡◌, refl, ap, ◌∙◌}
-use mathlib.Core.Bool.{Bool, true, false}
-use mathlib.Core.List.{List, [], ◌∷◌}
-use Prim.Native.Nat.{ℕ, ◌+◌, ◌*◌, ◌/◌, ◌%◌, ◌^◌, ◌≤◌, ◌<◌}
+use mathlib.Core.List.{List, [], ◌∷◌, ◌++◌}
+use Prim.Native.Nat.{ℕ, zero, suc, ◌+◌, ◌-◌, ◌*◌, ◌/◌, ◌%◌, ◌^◌, ◌≤◌, ◌<◌}
+use native.Mathlib.Numerals.{unary_clauses}
 use native.Mathlib.Omega.{arith}
-use lib.ListN.{length, take, drop, length-take, length-drop}
+use lib.ListN.{length, take, drop, replicate, length-take, length-drop}
+use lib.Seq.{take_all, length-take-le}
+use Rattle.std.proofs.lemmas.List.{drop-replicate}
 use lib.Dec.{leb}
-use borrow.Author.Tests.{leb-true, leb-false, le-leb, lt-leb, lt-ltb}
-use Rattle.std.proofs.Common.{Result, Ok, Err}
-use Rattle.std.specs.Result.{result_unwrap_or}
-use Rattle.coding.specs.Words.{Got, cut, got, Answer, no, ok}
-use Rattle.coding.specs.Bytes.{bytes_be}
+use borrow.Author.Tests.{leb-true, le-leb, lt-leb, lt-ltb}
+use Rattle.coding.specs.Words.{Got, cut, got, no, ok}
+use Rattle.coding.specs.Bytes.{bytes_be, splice}
 use Rattle.coding.specs.Places.{part_of}
 use Rattle.coding.specs.Reading.{fixed_at, take_at}
 use Rattle.coding.specs.declared.Place.{Place}
-use Rattle.coding.proofs.Laws.{fixed_inside, take_inside}
+use Rattle.coding.proofs.Laws.{fixed_inside, take_inside, splice_splice, length_splice}
 use Rattle.coding.proofs.Rules.{if_all, then_all}
-use Rattle.coding.specs.declared.refusal.Refusal.{Refusal}
-use Rattle.shared.specs.Said.{cid_made_of}
-use Rattle.shared.specs.Cid.{cid_of, cid_on, cid_new, no_cid, long_cid_at, cid_bytes, long_bytes, long_out, cid_put, long_put}
+use Rattle.shared.specs.Cid.{long_cid_at, cid_bytes, long_bytes, long_out, cid_put, long_put}
 use Rattle.shared.specs.Streams.{initiator_of, dir_of, index_of, stream_id, stream_made}
 use Rattle.shared.specs.declared.cid.ConnectionId.{ConnectionId}
 
@@ -33,35 +30,45 @@ part_short s p =
     (λ e. simp length-take (omega arith))
     (λ e. omega arith)
 
--- a part that is shorter than its place says has no bytes
-part_whole : (s : List ℕ) (p : Place) → length (part_of s p) < p.len → part_of s p ≡ []
-unfolding part_of
-part_whole s p =
-    if_all (λ (l : List ℕ). length l < p.len → l ≡ []) (leb (p.start + p.len) (length s)) (take p.len (drop p.start s)) []
-    (λ e h. let t : p.start + p.len ≤ length s = leb-true _ _ e in absurd (omega (arith, simp (length-take, length-drop) at h)))
-    (λ e h. refl)
+-- ---- an array of zeros that is filled from its front
 
--- the CID of a part's bytes, the empty one where they make none
-pub part_cid : (s : List ℕ) (p : Place) (r : Result ConnectionId Refusal) → cid_made_of r ≡ cid_new (part_of s p)
-    → result_unwrap_or r (cid_of []) ≡ cid_on s p
-unfolding cid_made_of cid_new cid_on no_cid
-part_cid s p r e = made r ∙ ap (λ (z : Answer ℕ × ConnectionId). z.1) e ∙ go (leb (length l) 20) (leb p.len 20) refl refl
-  where
-    l : List ℕ
-    l = part_of s p
+take_on : (at n : ℕ) (l : List ℕ) → take at l ++ take n (drop at l) ≡ take (at + n) l
+take_on zero n l = let e : n ≡ zero + n = omega arith in ap (λ (k : ℕ). take k l) e
+take_on (suc at) zero [] = simp unary_clauses refl
+take_on (suc at) (suc n) [] = simp unary_clauses refl
+take_on (suc at) n (x ∷ l) =
+    let e : suc (at + n) ≡ suc at + n = omega arith in
+    ap (λ (r : List ℕ). x ∷ r) (take_on at n l) ∙ ap (λ (k : ℕ). take k (x ∷ l)) e
 
-    made : (r : Result ConnectionId Refusal) → result_unwrap_or r (cid_of []) ≡ (cid_made_of r).1
-    made (Ok c) = refl
-    made (Err why) = refl
+-- n bytes more
+pub copied_more : (bytes all : List ℕ) (at n : ℕ) → length bytes ≤ 20 → at + n ≤ length bytes → all ≡ splice (replicate 20 0) 0 (take at bytes)
+    → splice all at (take n (drop at bytes)) ≡ splice (replicate 20 0) 0 (take (at + n) bytes)
+copied_more bytes all at n h k e =
+    let zeros : List ℕ = replicate 20 0 in
+    let xs : List ℕ = take at bytes in
+    let ys : List ℕ = take n (drop at bytes) in
+    let a : length xs ≡ at = length-take-le at bytes (omega arith) in
+    let b : length ys ≡ n = length-take-le n (drop at bytes) (simp length-drop (omega arith)) in
+    let c : splice (splice zeros 0 xs) (0 + length xs) ys ≡ splice zeros 0 (xs ++ ys) = splice_splice zeros xs ys 0 (omega arith) in
+    let q : 0 + length xs ≡ at = omega arith in
+    rw (e, ← take_on at n bytes) (rw q at c)
 
-    pair : Bool → Answer ℕ × ConnectionId
-    pair a = if a then (ok (length l), cid_of l) else (no 14, cid_of [])
+-- its length
+pub copied_length : (bytes all : List ℕ) (at : ℕ) → length bytes ≤ 20 → all ≡ splice (replicate 20 0) 0 (take at bytes) → length all ≡ 20
+copied_length bytes all at h e =
+    let zeros : List ℕ = replicate 20 0 in
+    let k : 0 + length (take at bytes) ≤ length zeros = simp length-take (omega arith) in
+    ap length e ∙ length_splice zeros (take at bytes) 0 k
 
-    go : (a b : Bool) → leb (length l) 20 ≡ a → leb p.len 20 ≡ b → (pair a).1 ≡ (if b then cid_of l else cid_of [])
-    go true true e f = refl
-    go true false e f = ap cid_of (part_whole s p (omega (arith, leb-true _ _ e, leb-false _ _ f)))
-    go false true e f = absurd (omega (arith, part_short s p, leb-false _ _ e, leb-true _ _ f))
-    go false false e f = refl
+-- and the whole
+pub copied_all : (bytes all : List ℕ) (at : ℕ) → at ≤ length bytes → length bytes - at < 1 → all ≡ splice (replicate 20 0) 0 (take at bytes)
+    → all ≡ bytes ++ replicate (20 - length bytes) 0
+unfolding splice
+copied_all bytes all at h k e =
+    let n : at ≡ length bytes = omega arith in
+    let z : ℕ = 0 in
+    let q : 0 + length bytes ≡ length bytes = omega arith in
+    e ∙ rw (n, take_all (length bytes) bytes (omega arith), q) (ap (λ (r : List ℕ). bytes ++ r) (drop-replicate (length bytes) 20 z))
 
 -- a CID that was found behind its length byte
 pub record InLong (s : List ℕ) (at : ℕ) (p : Place) (next : ℕ) : Type 0 where

@@ -1,7 +1,8 @@
 // Connection ids (shared.rs; RFC 9000, 5.1 and 17.2).
 #![tactic(auto, unfolding(coding::specs::Words::and_then, coding::specs::Said::found_by, crate::specs::Cid::cid_of, crate::specs::Cid::cid_on, crate::specs::Cid::long_cid_at, crate::specs::Cid::cid_new, crate::specs::Cid::cid_from, crate::specs::Cid::cid_long, crate::specs::Said::cid_made_of, crate::specs::Said::cid_read_of))]
 
-ghost use Rattle.std.specs.Prelude.{◌≡◌, ◌≤◌, [], length};
+ghost use Rattle.std.specs.Prelude.{◌≡◌, ◌+◌, ◌-◌, ◌≤◌, ◌<◌, [], length, take, replicate};
+ghost use Rattle.coding.specs.Bytes.{splice};
 ghost use Rattle.coding.specs.Said.{Reads, answer_of};
 ghost use Rattle.coding.specs.Writing.{Written, Put};
 ghost use Rattle.shared.specs.Cid.{max_cid, cid_of, cid_on, long_cid_at, cid_new, cid_from, cid_long, cid_put, long_put, long_out};
@@ -37,6 +38,37 @@ pub fn long_place(r: &mut Reader) -> Result<Place, UnexpectedEnd>
     Ok(p)
 }
 
+// Copies the next n bytes, where so many are left past `at`, and answers where the copied ones end.
+fn copy_on(all: &mut [u8], bytes: &[u8], at: usize, n: usize) -> usize
+    requires { (length bytes.now ≤ max_cid) × ((at ≤ length bytes.now) × ((length bytes.now - at < n + n) × (all.old ≡ splice (replicate max_cid 0) 0 (take at bytes.now)))) }
+    ensures { (result ≤ length bytes.now) × ((length bytes.now - result < n) × (all.new ≡ splice (replicate max_cid 0) 0 (take result bytes.now))) }
+{
+    if bytes.len() - at < n {
+        return at;
+    }
+    let next = at + n;
+    all[at..next].copy_from_slice(&bytes[at..next]);
+    next
+}
+
+// The CID of these bytes. Copied by lengths that the compiler knows: by any other it would call C's memcpy, and the archive for C
+// calls nothing that whoever links it has to have.
+fn filled(bytes: &[u8]) -> ConnectionId
+    requires { length bytes.now ≤ max_cid }
+    ensures { result ≡ cid_of bytes.now }
+{
+    let mut all = [0u8; MAX_CID_SIZE];
+    let at = copy_on(&mut all, bytes, 0, 16);
+    let at = copy_on(&mut all, bytes, at, 8);
+    let at = copy_on(&mut all, bytes, at, 4);
+    let at = copy_on(&mut all, bytes, at, 2);
+    copy_on(&mut all, bytes, at, 1);
+    ConnectionId {
+        len: bytes.len() as u8,
+        bytes: all,
+    }
+}
+
 impl ConnectionId {
     // Of no bytes; by name and no Default, since it is a connection id as the others are.
     pub fn empty() -> ConnectionId
@@ -52,23 +84,20 @@ impl ConnectionId {
     pub fn at(s: &[u8], p: Place) -> ConnectionId
         ensures { result ≡ cid_on s.now p }
     {
-        ConnectionId::new(coding::part(s, p)).unwrap_or(ConnectionId::empty())
+        if MAX_CID_SIZE < p.len {
+            return ConnectionId::empty();
+        }
+        filled(coding::part(s, p))
     }
 
     // Construct cid from byte array.
     pub fn new(bytes: &[u8]) -> Result<ConnectionId, Refusal>
         ensures { cid_made_of result ≡ cid_new bytes.now }
     {
-        let len = bytes.len();
-        if MAX_CID_SIZE < len {
+        if MAX_CID_SIZE < bytes.len() {
             return Err(Refusal::Argument);
         }
-        let mut all = [0u8; MAX_CID_SIZE];
-        all[..len].copy_from_slice(bytes);
-        Ok(ConnectionId {
-            len: len as u8,
-            bytes: all,
-        })
+        Ok(filled(bytes))
     }
 
     // Constructs cid by reading `len` bytes.

@@ -1,6 +1,6 @@
 // Connection ids, ECN codepoints, the kinds of number that a connection counts with (shared.rs; lib.rs), and the bits of a
-// header's first byte (packet.rs). Reads take a slice and a cursor, puts a buffer and a place, as coding's do: a caller keeps the one
-// and moves the other, so that a type of both would be taken apart at each call.
+// header's first byte (packet.rs). Reads take a Reader, as coding's do, and leave it where it stood on a refusal. Puts take a buffer
+// and a place, as coding's do, and answer the next: a caller keeps the one and moves the other.
 #![tactic(auto)]
 
 mod bits; // bits.rt: the bits of a header's first byte
