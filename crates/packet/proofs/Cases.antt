@@ -1,5 +1,6 @@
 -- What a proof cites of the definitions and the library.
-use mathlib.Core.Path.{◌≡◌, refl}
+use mathlib.Core.Path.{◌≡◌, refl, sym}
+use mathlib.Core.Bool.{Bool, true, false, not, ◌&&◌, false≢true}
 use mathlib.Core.List.{List, [], ◌∷◌}
 use Prim.Native.Nat.{ℕ, ◌+◌, ◌-◌, ◌*◌, ◌/◌, ◌%◌, ◌≤◌}
 use native.Mathlib.Omega.{arith}
@@ -10,7 +11,7 @@ use Rattle.std.specs.List.{list_any}
 use Rattle.coding.specs.Words.{no}
 use Rattle.coding.specs.Refusals.{number_of}
 use Rattle.packet.specs.Header.{listed}
-use Rattle.packet.specs.Said.{error_of}
+use Rattle.packet.specs.Said.{error_of, unlisted}
 use Rattle.packet.specs.declared.error.PacketDecodeError.{PacketDecodeError}
 use Rattle.packet.specs.declared.error.PacketDecodeError.TheVariants as error
 
@@ -32,3 +33,26 @@ any_listed v (x ∷ versions) = rw (any_listed v versions)
 pub error_says : (e : PacketDecodeError) → (k : ℕ) × ((error_of e).said ≡ no k)
 error_says (error.UnsupportedVersion dst src version) = (4, refl)
 error_says (error.Refused why) = (number_of why, refl)
+
+-- and has no end
+pub error_ends : (e : PacketDecodeError) → (error_of e).end ≡ 0
+error_ends (error.UnsupportedVersion dst src version) = refl
+error_ends (error.Refused why) = refl
+
+-- a version that can't be read is not 0, and not listed
+pub unlisted_is : (versions : List ℕ) (v : ℕ) → unlisted versions v ≡ true → (eqb v 0 ≡ false) × (listed versions v ≡ false)
+unlisted_is versions v = go (eqb v 0) (listed versions v)
+  where
+    go : (a b : Bool) → not a && not b ≡ true → (a ≡ false) × (b ≡ false)
+    go false false e = (refl, refl)
+    go false true e = absurd (false≢true e)
+    go true b e = absurd (false≢true e)
+
+-- and one that can, and is not 0, is listed
+pub listed_is : (versions : List ℕ) (v : ℕ) → unlisted versions v ≡ false → (eqb v 0 ≡ false) → listed versions v ≡ true
+listed_is versions v = go (eqb v 0) (listed versions v)
+  where
+    go : (a b : Bool) → not a && not b ≡ false → a ≡ false → b ≡ true
+    go false false e f = absurd (false≢true (sym e))
+    go false true e f = refl
+    go true b e f = absurd (false≢true (sym f))

@@ -1,4 +1,7 @@
--- Each map from the code's answers to the paper's words has an inverse: what is said settles the answer.
+-- What is said settles the code's answer: each map to the paper's words has an inverse. It needs no condition of a header that was read,
+-- nor of what is asked of it: `option_one`, `kind_one`, `space_one`, `decoded_one`, `partial_one`, `stepped_one`. Where a refusal can
+-- stand, in `outcome_one`, `split_one` and `step_one`, the condition is `Named`: 4 with empty ids and version 0 is said by
+-- `Refused(Version)`, and by an `UnsupportedVersion` that has these. No function answers it (Unlisted).
 use mathlib.Core.Path.{◌≡◌, refl, sym, ap, ◌∙◌}
 use mathlib.Core.Option.{Option, none, some}
 use mathlib.Core.Bool.{cond}
@@ -99,6 +102,9 @@ decoded_back_law : (d : Decoded) → decoded_back (decoded_of d) ≡ d
 unfolding decoded_of
 decoded_back_law d = rw (header_back_law d.header)
 
+pub decoded_one : (x y : Decoded) (o : Outcome) → decoded_of x ≡ o → decoded_of y ≡ o → x ≡ y
+decoded_one = one_by decoded_of decoded_back decoded_back_law
+
 -- ---- refusals: 4 comes with a version that is not 0
 
 abbrev error_back : Outcome → PacketDecodeError
@@ -137,6 +143,9 @@ partial_back_law : (d : PartialDecode) → partial_back (partial_of d) ≡ d
 unfolding partial_of
 partial_back_law d = rw (decoded_back_law d.plain_header, option_back_law d.rest)
 
+pub partial_one : (x y : PartialDecode) (o : Split) → partial_of x ≡ o → partial_of y ≡ o → x ≡ y
+partial_one = one_by partial_of partial_back partial_back_law
+
 abbrev split_back : Split → Result PartialDecode PacketDecodeError
 split_back x = answered (λ k. Err (error_back x.header)) (λ h. Ok (partial_back x)) x.header.said
 
@@ -148,6 +157,19 @@ split_one = one_where split_of split_back (λ o. Named o.header) back
     back (Ok d) n = ap Ok (partial_back_law d)
     back (Err (error.UnsupportedVersion dst src v)) n = refl
     back (Err (error.Refused why)) n = ap Err (error_back_law (error.Refused why) n)
+
+abbrev stepped_back : Met → Outcome → Maybe Stepped
+stepped_back at_end o = None
+stepped_back (packet start len) o = Some (record { packet = record { start = start; len = len }; plain_header = decoded_back o })
+stepped_back (refused_at start) o = None
+
+stepped_back_law : (x : Maybe Stepped) → stepped_back (packet_step_of (Ok x)).met (packet_step_of (Ok x)).header ≡ x
+unfolding packet_step_of
+stepped_back_law (Some x) = rw (decoded_back_law x.plain_header)
+stepped_back_law None = refl
+
+pub stepped_one : (x y : Maybe Stepped) (o : PacketStep) → packet_step_of (Ok x) ≡ o → packet_step_of (Ok y) ≡ o → x ≡ y
+stepped_one = one_by (λ x. packet_step_of (Ok x)) (λ o. stepped_back o.met o.header) stepped_back_law
 
 abbrev step_met : Met → Outcome → Result (Maybe Stepped) StepError
 step_met at_end o = Ok None

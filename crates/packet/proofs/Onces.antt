@@ -17,6 +17,18 @@ use Rattle.packet.specs.contracts.error.PacketDecodeError.src_cid as refused_src
 use Rattle.packet.proofs.error.PacketDecodeError.src_cid.Reads as refused_src_reads
 use Rattle.packet.specs.contracts.error.PacketDecodeError.version as refused_version
 use Rattle.packet.proofs.error.PacketDecodeError.version.Reads as refused_version_reads
+use Rattle.packet.specs.contracts.error.PacketDecodeError.payload_len as refused_payload_len
+use Rattle.packet.proofs.error.PacketDecodeError.payload_len.Reads as refused_payload_len_reads
+use Rattle.packet.specs.contracts.error.PacketDecodeError.space as refused_space
+use Rattle.packet.proofs.error.PacketDecodeError.space.Reads as refused_space_reads
+use Rattle.packet.specs.contracts.error.PacketDecodeError.is_initial as refused_is_initial
+use Rattle.packet.proofs.error.PacketDecodeError.is_initial.Reads as refused_is_initial_reads
+use Rattle.packet.specs.contracts.error.PacketDecodeError.is_0rtt as refused_is_0rtt
+use Rattle.packet.proofs.error.PacketDecodeError.is_0rtt.Reads as refused_is_0rtt_reads
+use Rattle.packet.specs.contracts.error.PacketDecodeError.has_long_header as refused_has_long_header
+use Rattle.packet.proofs.error.PacketDecodeError.has_long_header.Reads as refused_has_long_header_reads
+use Rattle.packet.specs.contracts.error.PacketDecodeError.number_offset as refused_number_offset
+use Rattle.packet.proofs.error.PacketDecodeError.number_offset.Reads as refused_number_offset_reads
 use Rattle.packet.specs.contracts.header.LongHeaderType.from_byte as from_byte
 use Rattle.packet.proofs.header.LongHeaderType.from_byte.Reads as from_byte_reads
 use Rattle.packet.specs.contracts.header.LongHeaderType.bits as bits
@@ -66,6 +78,30 @@ refused_src_once κs a x y s t p q = p ∙ sym q
 refused_version_once : Once refused_version.ended refused_version_reads.Post (λ κs x s. x)
 unfolding Once
 refused_version_once κs a x y s t p q = p ∙ sym q
+
+refused_payload_len_once : Once refused_payload_len.ended refused_payload_len_reads.Post (λ κs x s. x)
+unfolding Once
+refused_payload_len_once κs a x y s t p q = option_one x y _ p q
+
+refused_space_once : Once refused_space.ended refused_space_reads.Post (λ κs x s. x)
+unfolding Once
+refused_space_once κs a x y s t p q = space_one x y _ p q
+
+refused_is_initial_once : Once refused_is_initial.ended refused_is_initial_reads.Post (λ κs x s. x)
+unfolding Once
+refused_is_initial_once κs a x y s t p q = p ∙ sym q
+
+refused_is_0rtt_once : Once refused_is_0rtt.ended refused_is_0rtt_reads.Post (λ κs x s. x)
+unfolding Once
+refused_is_0rtt_once κs a x y s t p q = p ∙ sym q
+
+refused_has_long_header_once : Once refused_has_long_header.ended refused_has_long_header_reads.Post (λ κs x s. x)
+unfolding Once
+refused_has_long_header_once κs a x y s t p q = p ∙ sym q
+
+refused_number_offset_once : Once refused_number_offset.ended refused_number_offset_reads.Post (λ κs x s. x)
+unfolding Once
+refused_number_offset_once κs a x y s t p q = p ∙ sym q
 
 from_byte_once : Once from_byte.ended from_byte_reads.Post (λ κs x s. x)
 unfolding Once

@@ -1,12 +1,14 @@
 -- What each answer of the code says, in document 01's numbers and values.
-use Rattle.std.specs.Prelude.{ℕ, List, Result, Ok, Err, Some, None}
+use Rattle.std.specs.Prelude.{ℕ, List, Bool, not, ◌&&◌, eqb, Result, Ok, Err, Some, None}
 use Rattle.std.specs.Prelude.{Option as Maybe}
 use Rattle.std.proofs.Math.Option.{Option, none, some}
 use Rattle.coding.specs.Words.{no, ok}
 use Rattle.coding.specs.Refusals.{number_of}
+use Rattle.coding.specs.declared.refusal.Refusal.{Refusal}
+use Rattle.shared.specs.declared.cid.ConnectionId.{ConnectionId}
 use Rattle.packet.specs.TypeBits.{PacketType}
 use Rattle.packet.specs.TypeBits as type
-use Rattle.packet.specs.Header.{Header, initial, zero_rtt, handshake, retry, short, negotiate, Outcome, refused_header}
+use Rattle.packet.specs.Header.{Header, initial, zero_rtt, handshake, retry, short, negotiate, Outcome, refused_header, listed}
 use Rattle.packet.specs.Split.{Split, cut_at, no_packet}
 use Rattle.packet.specs.Walk.{at_end, packet, refused_at, PacketStep}
 use Rattle.packet.specs.declared.error.PacketDecodeError.{PacketDecodeError}
@@ -57,8 +59,12 @@ space_of None = none
 unfoldable pub decoded_of : Decoded → Outcome
 decoded_of d = record { said = ok (header_of d.header); dst = d.dst_cid; src = d.src_cid; version = d.version; end = d.number_offset }
 
+-- that of a version that is neither 0 nor listed
+abbrev pub unsupported_by : ConnectionId → ConnectionId → ℕ → Outcome
+unsupported_by dst src version = record { said = no 4; dst = dst; src = src; version = version; end = 0 }
+
 abbrev pub error_of : PacketDecodeError → Outcome
-error_of (error.UnsupportedVersion dst src version) = record { said = no 4; dst = dst; src = src; version = version; end = 0 }
+error_of (error.UnsupportedVersion dst src version) = unsupported_by dst src version
 error_of (error.Refused why) = refused_header (number_of why)
 
 unfoldable pub outcome_of : Result Decoded PacketDecodeError → Outcome
@@ -66,9 +72,13 @@ outcome_of (Ok d) = decoded_of d
 outcome_of (Err e) = error_of e
 
 -- the same of what stands past the connection ids up to `end`, with these beside it
-unfoldable pub tail_of : (Header → ℕ → Outcome) → Result ProtectedHeader PacketDecodeError → ℕ → Outcome
+unfoldable pub tail_of : (Header → ℕ → Outcome) → Result ProtectedHeader Refusal → ℕ → Outcome
 tail_of made (Ok h) end = made (header_of h) end
-tail_of made (Err e) end = error_of e
+tail_of made (Err why) end = refused_header (number_of why)
+
+-- a version that is neither 0 nor listed
+abbrev pub unlisted : List ℕ → ℕ → Bool
+unlisted versions version = not (eqb version 0) && not (listed versions version)
 
 -- a packet that ends there; one whose Length is past the datagram's end is refused 7
 unfoldable pub ended_of : Maybe ℕ → Outcome → List ℕ → Split

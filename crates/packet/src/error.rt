@@ -1,11 +1,15 @@
 // Why a header was not read (packet.rs, PacketDecodeError).
+#![tactic(auto, using(crate::proofs::Cases::error_says, crate::proofs::Cases::error_ends))]
+
 ghost use Rattle.std.specs.Prelude.{◌≡◌};
 ghost use Rattle.coding.specs.Words.{no};
 ghost use Rattle.coding.specs.Refusals.{number_of};
 ghost use Rattle.coding.specs.declared.refusal.Refusal.TheVariants as refusal;
 ghost use Rattle.packet.specs.declared.error.PacketDecodeError.TheVariants as error;
-ghost use Rattle.packet.specs.Said.{error_of};
+ghost use Rattle.packet.specs.Header.{length_in, space_in, is_kind, is_long};
+ghost use Rattle.packet.specs.Said.{error_of, option_of, space_of};
 
+use crate::SpaceId;
 use coding::{Refusal, UnexpectedEnd};
 use shared::ConnectionId;
 
@@ -59,6 +63,43 @@ impl PacketDecodeError {
             PacketDecodeError::UnsupportedVersion { version, .. } => version,
             PacketDecodeError::Refused(_) => 0,
         }
+    }
+
+    // What else a `Decoded` answers is the same for every header that was refused.
+    pub fn payload_len(self) -> Option<u64>
+        ensures { option_of result ≡ length_in (error_of self).said }
+    {
+        None // it has no Length
+    }
+
+    pub fn space(self) -> Option<SpaceId>
+        ensures { space_of result ≡ space_in (error_of self).said }
+    {
+        None // and no space
+    }
+
+    pub fn is_initial(self) -> bool
+        ensures { result ≡ is_kind 0 (error_of self).said }
+    {
+        false // it is of no kind, so no Initial
+    }
+
+    pub fn is_0rtt(self) -> bool
+        ensures { result ≡ is_kind 1 (error_of self).said }
+    {
+        false // and no 0-RTT packet
+    }
+
+    pub fn has_long_header(self) -> bool
+        ensures { result ≡ is_long (error_of self).said }
+    {
+        false // and it is not taken for a long one
+    }
+
+    pub fn number_offset(self) -> usize
+        ensures { result ≡ (error_of self).end }
+    {
+        0 // and it ends nowhere
     }
 }
 

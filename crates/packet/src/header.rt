@@ -36,14 +36,15 @@ pub enum ProtectedHeader {
     VersionNegotiate { random: u8 },
 }
 
-// A header that was read. The number offset is the place past the header: the packet number's, where there is one.
+// A header that was read. The number offset is the place past the header: the packet number's, where there is one. The connection
+// ids stand last: past all of an error, whose room an answer shares, their bytes cost a caller nothing that does not read them.
 #[derive(Clone, Copy, PartialEq, Eq)]
 pub struct Decoded {
     pub header: ProtectedHeader,
-    pub dst_cid: ConnectionId,
-    pub src_cid: ConnectionId,
     pub version: u32,
     pub number_offset: usize,
+    pub dst_cid: ConnectionId,
+    pub src_cid: ConnectionId,
 }
 
 // The packet number spaces.

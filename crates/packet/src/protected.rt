@@ -4,11 +4,12 @@
 ghost use Rattle.std.specs.Prelude.{◌≡◌, ℕ, ◌/◌, ◌%◌};
 ghost use Rattle.shared.specs.FirstByte.{spin_bit};
 ghost use Rattle.packet.specs.TypeBits.{type_of};
-ghost use Rattle.packet.specs.Header.{Header, Outcome, outside, unfixed, initial_at, tail_at, long_at, short_at, header_at};
-ghost use Rattle.packet.specs.Said.{long_type_of, tail_of, outcome_of};
+ghost use Rattle.packet.specs.Header.{Header, Outcome, outside, unfixed, listed, initial_at, tail_at, long_at, short_at, header_at};
+ghost use Rattle.shared.specs.Cid.{cid_on};
+ghost use Rattle.packet.specs.Said.{long_type_of, unlisted, unsupported_by, tail_of, error_of, outcome_of};
 
 use crate::{Decoded, LongHeaderType, PacketDecodeError, ProtectedHeader};
-use coding::{MAX_DATAGRAM, Reader, Refusal};
+use coding::{MAX_DATAGRAM, Place, Reader, Refusal};
 use shared::{ConnectionId, FIXED_BIT, LONG_HEADER_FORM, MAX_CID_SIZE, SPIN_BIT};
 
 // The most versions that a reader may list.
@@ -28,30 +29,62 @@ fn is_unfixed(first: u8, grease: bool) -> bool
     !grease && first / FIXED_BIT % 2 == 0
 }
 
-// What stands past a long header's connection ids is its header and the place past it. Here: an Initial's token behind its
-// length, and its Length.
-fn initial_tail(r: &mut Reader) -> Result<ProtectedHeader, PacketDecodeError>
+// What stands past a long header's connection ids is its header and the place past it; no more than a refusal, as an error has
+// room for two connection ids, which would go through memory. Here: an Initial's token behind its length, and its Length.
+fn initial_tail(r: &mut Reader) -> Result<ProtectedHeader, Refusal>
     ensures { (made : Header → ℕ → Outcome) → tail_of made result r.new.at ≡ initial_at made r.old.bytes.now r.old.at }
 {
-    let token_len = r.get_var()?;
-    let Ok(token) = r.take(token_len.0) else {
-        return Err(PacketDecodeError::Refused(Refusal::Token));
+    let Ok(token_len) = r.get_var() else {
+        return Err(Refusal::PacketEnd);
     };
-    let len = r.get_var()?;
+    let Ok(token) = r.take(token_len.0) else {
+        return Err(Refusal::Token);
+    };
+    let Ok(len) = r.get_var() else {
+        return Err(Refusal::PacketEnd);
+    };
     Ok(ProtectedHeader::Initial { token, len: len.0 })
 }
 
 // By the type.
-fn long_tail(r: &mut Reader, ty: LongHeaderType) -> Result<ProtectedHeader, PacketDecodeError>
+fn long_tail(r: &mut Reader, ty: LongHeaderType) -> Result<ProtectedHeader, Refusal>
     ensures { (made : Header → ℕ → Outcome) → tail_of made result r.new.at ≡ tail_at (long_type_of ty) made r.old.bytes.now r.old.at }
 {
     match ty {
         LongHeaderType::Initial => initial_tail(r),
         LongHeaderType::Retry => Ok(ProtectedHeader::Retry),
         LongHeaderType::Standard(ty) => {
-            let len = r.get_var()?;
+            let Ok(len) = r.get_var() else {
+                return Err(Refusal::PacketEnd);
+            };
             Ok(ProtectedHeader::Long { ty, len: len.0 })
         }
+    }
+}
+
+fn is_listed(versions: &[u32], version: u32) -> bool
+    ensures { result ≡ listed versions.now version }
+{
+    versions.contains(&version)
+}
+
+// Whether a version can't be read: it is not 0, which is looked at first, and not listed.
+fn is_unlisted(versions: &[u32], version: u32) -> bool
+    ensures { result ≡ unlisted versions.now version }
+{
+    version != 0 && !is_listed(versions, version)
+}
+
+// The error that carries both connection ids. Not inlined: where a header that was read shares its room, reading takes as long again.
+#[cold]
+#[inline(never)]
+fn unsupported(s: &[u8], to: Place, from: Place, version: u32) -> PacketDecodeError
+    ensures { error_of result ≡ unsupported_by (cid_on s.now to) (cid_on s.now from) version }
+{
+    PacketDecodeError::UnsupportedVersion {
+        dst_cid: ConnectionId::at(s, to),
+        src_cid: ConnectionId::at(s, from),
+        version,
     }
 }
 
@@ -67,24 +100,24 @@ fn long_header(s: &[u8], first: u8, versions: &[u32]) -> Result<Decoded, PacketD
     let Ok(from) = shared::long_place(&mut r) else {
         return Err(PacketDecodeError::Refused(Refusal::Cid));
     };
+    if is_unlisted(versions, version) {
+        return Err(unsupported(s, to, from, version));
+    }
     let header = if version == 0 {
         let random = first % LONG_HEADER_FORM;
         ProtectedHeader::VersionNegotiate { random }
-    } else if versions.contains(&version) {
-        long_tail(&mut r, LongHeaderType::from_byte(first, version))?
     } else {
-        return Err(PacketDecodeError::UnsupportedVersion {
-            dst_cid: ConnectionId::at(s, to),
-            src_cid: ConnectionId::at(s, from),
-            version,
-        });
+        match long_tail(&mut r, LongHeaderType::from_byte(first, version)) {
+            Ok(header) => header,
+            Err(why) => return Err(PacketDecodeError::Refused(why)),
+        }
     };
     Ok(Decoded {
         header,
-        dst_cid: ConnectionId::at(s, to),
-        src_cid: ConnectionId::at(s, from),
         version,
         number_offset: r.at,
+        dst_cid: ConnectionId::at(s, to),
+        src_cid: ConnectionId::at(s, from),
     })
 }
 
@@ -99,10 +132,10 @@ fn short_header(s: &[u8], first: u8, local: usize) -> Result<Decoded, PacketDeco
         header: ProtectedHeader::Short {
             spin: first / SPIN_BIT % 2 == 1,
         },
-        dst_cid: ConnectionId::at(s, to),
-        src_cid: ConnectionId::empty(),
         version: 0,
         number_offset: r.at,
+        dst_cid: ConnectionId::at(s, to),
+        src_cid: ConnectionId::empty(),
     })
 }
 

@@ -1,34 +1,37 @@
-use mathlib.Core.Path.{refl}
-use Rattle.std.proofs.lemmas.Result.{err_from_is_err_and}
+use mathlib.Core.Path.{◌≡◌, refl, sym}
+use mathlib.Core.Bool.{false}
+use lib.Dec.{eqb}
 use borrow.Author.Tests.{eq-eqb, ne_eqb}
 use Rattle.coding.specs.Words.{and_then}
 use Rattle.coding.specs.Said.{found_by}
 use Rattle.packet.specs.Header.{long_at, body_at, headed}
 use Rattle.packet.specs.Said.{decoded_of, outcome_of, tail_of}
-use Rattle.packet.proofs.Cases.{low_seven, any_listed}
+use Rattle.packet.proofs.Cases.{low_seven, unlisted_is, listed_is}
 use Rattle.packet.proofs.protected.long_header.Goals as goal
-use Rattle.packet.proofs.protected.long_header.Goals.{then-version-eq0, else-version-eq0+then-contains+in_ok-header}
+use Rattle.packet.proofs.protected.long_header.Goals.{then-version-eq0, else-version-eq0+in-Ok-long_tail}
 
-pub returns-in_err-header : goal.returns-in_err-header
-unfolding long_at body_at and_then found_by outcome_of tail_of
-returns-in_err-header c =
-    let p = err_from_is_err_and c.from_residual-in_err-header.result c.from_residual-in_err-header.ensures.1 in
-    rw (p.1, p.2, ← c.in_ok-version.ensures.finds, ← c.in_ok-version.ensures.bytes, ← c.in-Ok.ensures.finds, ← c.in-Ok.ensures.bytes, ← c.in-Ok-long_place.ensures.finds, ← c.in-Ok-long_place.ensures.bytes, ne_eqb _ _ c.if-version-eq0.false)
-    (rw (← any_listed, ← c.contains.ensures.value, c.if-contains.true, ← c.from_byte.ensures) (c.in_err-header.ensures _))
-
-pub returns-else-contains : goal.returns-else-contains
+pub returns-then-is_unlisted : goal.returns-then-is_unlisted
 unfolding long_at body_at and_then found_by outcome_of
-returns-else-contains c =
-    rw (← c.in_ok-version.ensures.finds, ← c.in_ok-version.ensures.bytes, ← c.in-Ok.ensures.finds, ← c.in-Ok.ensures.bytes, ← c.in-Ok-long_place.ensures.finds, ← c.in-Ok-long_place.ensures.bytes, ne_eqb _ _ c.if-version-eq0.false)
-    (rw (← any_listed, ← c.contains.ensures.value, c.if-contains.false, c.at.ensures, c.at-else-contains.ensures, c.in-Ok-long_place.ensures.bytes, c.in-Ok.ensures.bytes, c.in_ok-version.ensures.bytes) refl)
+returns-then-is_unlisted c =
+    let u = unlisted_is c.args.versions.now c.in_ok-version.version (sym c.if-is_unlisted.ensures) in
+    rw (c.unsupported.ensures, ← c.in_ok-version.ensures.finds, ← c.in_ok-version.ensures.bytes, ← c.in-Ok.ensures.finds, ← c.in-Ok.ensures.bytes, ← c.in-Ok-long_place.ensures.finds, ← c.in-Ok-long_place.ensures.bytes, u.0, u.1) refl
+
+pub returns-in-Err : goal.returns-in-Err
+unfolding long_at body_at and_then found_by outcome_of tail_of
+returns-in-Err c =
+    let v = c.in_ok-version.version in
+    let z : eqb v 0 ≡ false = ne_eqb _ _ c.if-version-eq0.false in
+    rw (← c.in_ok-version.ensures.finds, ← c.in_ok-version.ensures.bytes, ← c.in-Ok.ensures.finds, ← c.in-Ok.ensures.bytes, ← c.in-Ok-long_place.ensures.finds, ← c.in-Ok-long_place.ensures.bytes, z)
+    (rw (listed_is c.args.versions.now v (sym c.if-is_unlisted.ensures) z, ← c.from_byte.ensures) (c.in-Err.ensures _))
 
 pub returns : goal.returns
 unfolding long_at body_at headed and_then found_by outcome_of decoded_of tail_of
 returns c =
-    rw (c.at-2.ensures, c.at-3.ensures, ← c.in_ok-version.ensures.finds, ← c.in_ok-version.ensures.bytes, ← c.in-Ok.ensures.finds, ← c.in-Ok.ensures.bytes, ← c.in-Ok-long_place.ensures.finds, ← c.in-Ok-long_place.ensures.bytes)
+    let v = c.in_ok-version.version in
+    rw (c.at.ensures, c.at-2.ensures, ← c.in_ok-version.ensures.finds, ← c.in_ok-version.ensures.bytes, ← c.in-Ok.ensures.finds, ← c.in-Ok.ensures.bytes, ← c.in-Ok-long_place.ensures.finds, ← c.in-Ok-long_place.ensures.bytes)
     (elim c.if-version-eq0.branch [
       | then-version-eq0 w ↦ rw (w.header-is, w.r-is, eq-eqb _ _ w.if-version-eq0.true, low_seven)
-      | else-version-eq0+then-contains+in_ok-header w ↦
-          rw (w.header-is, ne_eqb _ _ w.if-version-eq0.false, ← any_listed, ← w.contains.ensures.value, w.if-contains.true, ← w.from_byte.ensures)
-          (rw w.r-is (w.in_ok-header.ensures _))
+      | else-version-eq0+in-Ok-long_tail w ↦
+          let z : eqb v 0 ≡ false = ne_eqb _ _ w.if-version-eq0.false in
+          rw (w.header-is, z, listed_is c.args.versions.now v (sym c.if-is_unlisted.ensures) z, ← w.from_byte.ensures) (rw w.r-is (w.in-Ok-long_tail.ensures _))
     ])
