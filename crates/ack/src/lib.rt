@@ -20,19 +20,25 @@ pub struct AckTaken {
     pub next: usize,
 }
 
-// What a gap and a block below smallest leave.
+// What a gap and a block below smallest leave. By tests, since checked_sub's answers would each wait for the one before.
 fn scan_round(r: &mut Reader, smallest: u64) -> Result<u64, Refusal>
     ensures reads { (n : ℕ) → round_then result r.new.at (rounds r.old.bytes.now n) ≡ rounds r.old.bytes.now (suc n) r.old.at smallest }
     ensures bytes { r.new.bytes ≡ r.old.bytes }
 {
     let gap = r.get_var()?; // the bytes end the scan, whatever the count
-    let largest = smallest.checked_sub(gap.0 + 2).ok_or(Refusal::Malformed)?;
+    if smallest < gap.0 + 2 {
+        return Err(Refusal::Malformed);
+    }
+    let largest = smallest - (gap.0 + 2);
     let block = r.get_var()?;
-    let low = largest.checked_sub(block.0).ok_or(Refusal::Malformed)?;
-    Ok(low)
+    if largest < block.0 {
+        return Err(Refusal::Malformed);
+    }
+    Ok(largest - block.0)
 }
 
-// n rounds below low.
+// n rounds below low. Not inlined: within a frame's reader its counter would have no register.
+#[inline(never)]
 fn scan_rounds(s: &[u8], at: usize, low: u64, n: u64) -> Result<usize, Refusal>
     ensures { answer_of result ≡ rounds s.now n at low }
 {

@@ -26,4 +26,4 @@ add_assign_once_of = record { claim = add_assign_reads.Post; is = λ M 𝓤 𝓛
 
 raised_once : Once raised.ended raised_reads.Post (λ κs x s. x)
 unfolding Once
-raised_once κs a x y s t p q = answer_one x y _ p q
+raised_once κs a x y s t p q i = ((p.0 ∙ sym q.0) i, answer_one x.1 y.1 _ p.1 q.1 i)

@@ -6,7 +6,6 @@ ghost use Rattle.std.specs.Prelude.{◌≡◌};
 ghost use Rattle.coding.specs.Said.{answer_of};
 ghost use Rattle.shared.specs.Said.{ecn_of};
 ghost use Rattle.ecn.specs.Counts.{zero_counts, count_of, count_said, counts_after, said_after};
-ghost use Rattle.ecn.specs.Said.{raised_to};
 
 use coding::{MAX_NUMBER, Refusal};
 use shared::EcnCodepoint;
@@ -56,11 +55,11 @@ impl EcnCounts {
     }
 }
 
-// The counts with the count of a codepoint raised where it stands.
-pub fn raised(counts: EcnCounts, rhs: EcnCodepoint) -> Result<EcnCounts, Refusal>
-    ensures { answer_of result ≡ raised_to (said_after counts (ecn_of rhs)) (counts_after counts (ecn_of rhs)) }
+// The counts afterwards, as they were beside a refusal, and whether one was raised.
+pub fn raised(counts: EcnCounts, rhs: EcnCodepoint) -> (EcnCounts, Result<(), Refusal>)
+    ensures { (result.0 ≡ counts_after counts (ecn_of rhs)) × (answer_of result.1 ≡ said_after counts (ecn_of rhs)) }
 {
     let mut c = counts;
-    c.add_assign(rhs)?;
-    Ok(c)
+    let answer = c.add_assign(rhs);
+    (c, answer)
 }

@@ -11,7 +11,7 @@ ghost use Rattle.protect.specs.Tests.{has_sample, maskable, number_bytes, number
 ghost use Rattle.protect.specs.Steps.{sample_at, opened_by, Opens, Finishes, PartAt, header_place, payload_place, Protects, Masks};
 ghost use Rattle.protect.specs.Said.{long_header, numbered_of, number_len_of, sample_of, opened_of, opens_of, finished_of};
 
-use coding::{MAX_DATAGRAM, Place, Reader, Refusal};
+use coding::{MAX_DATAGRAM, Place, Refusal};
 use shared::{CutNumber, KEY_PHASE_BIT, LONG_HEADER_FORM, LONG_RESERVED_BITS, SHORT_RESERVED_BITS};
 
 // The kind of a header.
@@ -69,12 +69,12 @@ fn has_sample(len: usize, number_offset: usize) -> bool
     number_offset <= len && 4 + 16 <= len - number_offset
 }
 
-// XORs the number's bytes, four at most, with the mask's from its second on.
-fn mask_number(number: &mut [u8], mask: [u8; 5])
-    requires { length number.old ≤ 4 }
-    ensures { number.new ≡ xor (drop 1 mask) number.old }
+// XORs the first n bytes of a part, four at most, with the mask's from its second on.
+fn mask_number(part: &mut [u8], n: usize, mask: [u8; 5])
+    requires { (n ≤ 4) × (n ≤ length part.old) }
+    ensures { part.new ≡ xor (number_mask n mask) part.old }
 {
-    for (i, b) in number.iter_mut().enumerate() {
+    for (i, b) in part[..n].iter_mut().enumerate() {
         *b ^= mask[i + 1];
     }
 }
@@ -86,20 +86,20 @@ fn mask_header(packet: &mut [u8], number_offset: usize, first: u8, n: usize, mas
     ensures { packet.new ≡ xor_at number_offset (number_mask n mask) (set packet.old 0 first) }
 {
     packet[0] = first;
-    mask_number(&mut packet[number_offset..number_offset + n], mask);
+    mask_number(&mut packet[number_offset..], n, mask);
 }
 
-// The number of len bytes at the number offset.
+// The number of len bytes at the number offset. Byte by byte, as mask_number stores them: a load of four bytes that were just
+// stored one by one waits for the stores.
 fn decode(len: usize, packet: &[u8], number_offset: usize) -> CutNumber
-    requires { (1 ≤ len) × ((len ≤ 4) × (number_offset + 4 ≤ length packet.now)) }
+    requires { (len ≤ 4) × (number_offset + len ≤ length packet.now) }
     ensures { result ≡ first_cut len (drop number_offset packet.now) }
 {
-    let mut r = Reader {
-        bytes: packet,
-        at: number_offset,
-    };
-    let word = r.get::<u32>().unwrap();
-    number::decode(len, word).unwrap()
+    let mut value: u32 = 0;
+    for b in &packet[number_offset..number_offset + len] {
+        value = value * 256 + *b as u32;
+    }
+    CutNumber(len, value)
 }
 
 // What the first byte without its mask and the number say.

@@ -31,7 +31,8 @@ mask_header-requires c =
 pub decode-number-requires : goal.decode-number-requires
 unfolding answer_of
 decode-number-requires c =
-    (omega (arith, c.decode_len-len.ensures), (omega (arith, c.decode_len-len.ensures), still_left _ _ _ _ (maskable_is _ _ _ c.in_ok-maskable.ensures).sampled c.mask_header.ensures))
+    let s = still_left _ _ _ _ (maskable_is _ _ _ c.in_ok-maskable.ensures).sampled c.mask_header.ensures in
+    (omega (arith, c.decode_len-len.ensures), omega (arith, c.decode_len-len.ensures, s))
 
 pub returns : goal.returns
 unfolding answer_of opens_of

@@ -3,4 +3,4 @@ use Rattle.protect.specs.Protection.{xor}
 use Rattle.protect.proofs.mask_number.Given as goal
 
 abbrev pub invariant-loop-i : goal.invariant-loop-i
-invariant-loop-i l = l.number ≡ xor (take l.i (drop 1 l.mask)) l.initial.number
+invariant-loop-i l = l.b-items ≡ xor (take l.i (drop 1 l.mask)) l.initial.b-items
