@@ -3,16 +3,29 @@ use mathlib.Core.Path.{◌≡◌, ◌∙◌, sym}
 use mathlib.Core.List.{List}
 use Prim.Native.Nat.{ℕ}
 use mir.Syntax.{Dict}
+use denote.Builtin.{u64}
 use denote.Param.Laws.{Laws}
 use denote.RattleType.{RattleType}
 use Rattle.frame_out.specs.declared.codec.Integer
+use Rattle.frame_out.specs.contracts.codec.FrameTypeInteger.TheImpl as ty_integer
+use Rattle.frame_out.specs.contracts.codec.FrameTypeInteger.TheImpl.Laws as ty_integer_laws
+use Rattle.frame_out.specs.contracts.codec.StreamIdInteger.TheImpl as id_integer
+use Rattle.frame_out.specs.contracts.codec.StreamIdInteger.TheImpl.Laws as id_integer_laws
+use Rattle.frame_out.specs.contracts.codec.U64Integer.TheImpl as code_integer
+use Rattle.frame_out.specs.contracts.codec.U64Integer.TheImpl.Laws as code_integer_laws
 use Rattle.coding.specs.Once.{Once}
 use Rattle.std.specs.Prelude.{Result}
 use Rattle.coding.specs.declared.reader.Reader.{Reader}
 use Rattle.coding.specs.declared.refusal.Refusal.{Refusal}
 use Rattle.coding.specs.declared.refusal.UnexpectedEnd.{UnexpectedEnd}
 use Rattle.coding.proofs.Inverse.{reads_one, answer_one}
-use Rattle.coding.proofs.Onces.{one_written}
+use Rattle.coding.proofs.Onces.{one_written, u64_laws}
+use Rattle.shared.specs.declared.kinds.FrameType.{FrameType}
+use Rattle.shared.specs.declared.kinds.StreamId.{StreamId}
+use Rattle.shared.specs.contracts.kinds.FrameType.{the_row as type_row}
+use Rattle.shared.proofs.kinds.FrameType.TheLaws.{the_row_laws as type_laws}
+use Rattle.shared.specs.contracts.kinds.StreamId.{the_row as id_row}
+use Rattle.shared.proofs.kinds.StreamId.TheLaws.{the_row_laws as id_laws}
 use Rattle.frame_out.specs.contracts.codec.encode as encode
 use Rattle.frame_out.proofs.codec.encode.Reads as encode_reads
 use Rattle.frame_out.specs.contracts.codec.decode as decode
@@ -59,6 +72,25 @@ module _ (T : RattleType) (laws : Laws T) (g : Integer.Ghosts T.Denot) (d : Dict
   decode_once : Once {B = Result T.Denot UnexpectedEnd × Reader} (decode.ended T g d) (decode_reads.Post T laws g d) (λ κs x s. (x, s.0.now))
   unfolding Once
   decode_once κs a x y s t p q = reads_one g.number one _ _ _ _ x y p q
+
+-- at the three types, where each impl proves that law
+encode_type_once : Once {B = Result ℕ Refusal × List ℕ} (encode.ended type_row ty_integer.ghosts ty_integer.dict) (encode_reads.Post type_row type_laws ty_integer.ghosts ty_integer.dict) (λ κs x s. (x, s.1.0.now))
+encode_type_once = encode_once type_row type_laws ty_integer.ghosts ty_integer.dict ty_integer_laws.one-law
+
+encode_stream_id_once : Once {B = Result ℕ Refusal × List ℕ} (encode.ended id_row id_integer.ghosts id_integer.dict) (encode_reads.Post id_row id_laws id_integer.ghosts id_integer.dict) (λ κs x s. (x, s.1.0.now))
+encode_stream_id_once = encode_once id_row id_laws id_integer.ghosts id_integer.dict id_integer_laws.one-law
+
+encode_error_code_once : Once {B = Result ℕ Refusal × List ℕ} (encode.ended u64 code_integer.ghosts code_integer.dict) (encode_reads.Post u64 u64_laws code_integer.ghosts code_integer.dict) (λ κs x s. (x, s.1.0.now))
+encode_error_code_once = encode_once u64 u64_laws code_integer.ghosts code_integer.dict code_integer_laws.one-law
+
+decode_type_once : Once {B = Result FrameType UnexpectedEnd × Reader} (decode.ended type_row ty_integer.ghosts ty_integer.dict) (decode_reads.Post type_row type_laws ty_integer.ghosts ty_integer.dict) (λ κs x s. (x, s.0.now))
+decode_type_once = decode_once type_row type_laws ty_integer.ghosts ty_integer.dict ty_integer_laws.one-law
+
+decode_stream_id_once : Once {B = Result StreamId UnexpectedEnd × Reader} (decode.ended id_row id_integer.ghosts id_integer.dict) (decode_reads.Post id_row id_laws id_integer.ghosts id_integer.dict) (λ κs x s. (x, s.0.now))
+decode_stream_id_once = decode_once id_row id_laws id_integer.ghosts id_integer.dict id_integer_laws.one-law
+
+decode_error_code_once : Once {B = Result ℕ UnexpectedEnd × Reader} (decode.ended u64 code_integer.ghosts code_integer.dict) (decode_reads.Post u64 u64_laws code_integer.ghosts code_integer.dict) (λ κs x s. (x, s.0.now))
+decode_error_code_once = decode_once u64 u64_laws code_integer.ghosts code_integer.dict code_integer_laws.one-law
 
 is_transport_layer_once : Once is_transport_layer.ended is_transport_layer_reads.Post (λ κs x s. x)
 unfolding Once

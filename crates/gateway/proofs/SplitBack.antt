@@ -137,10 +137,10 @@ module _ (s : List ℕ) (at len : ℕ) (dst src : ConnectionId) (version end : �
           → Holds s (split_record at len (saying (drop at s) at len dst src version end (ok x)))
       by_form true e w =
           let r = read_as x in
-          rw (r.form, e, r.done, r.token) (record { packet = p; to = omega (arith, w); from = omega (arith, w); token = h.1; number = q })
+          rw (r.form, e, r.done, r.token) (record { packet = p; to = omega (arith, w); from = omega (arith, w); token = h.1.0; number = q })
       by_form false e w =
           let r = read_as x in
-          rw (r.form, e, r.token) (record { packet = p; to = omega (arith, w); from = omega arith; token = h.1; number = q })
+          rw (r.form, e, r.token) (record { packet = p; to = omega (arith, w); from = omega arith; token = h.1.0; number = q })
 
 module _ (s : List ℕ) (at local : ℕ) (versions : List ℕ) (grease : Bool) where
   abbrev Inside : PacketStep → Type 0

@@ -23,7 +23,7 @@ use Rattle.shared.proofs.Laws.{long_inside}
 use Rattle.packet.specs.TypeBits.{PacketType}
 use Rattle.packet.specs.TypeBits as type
 use Rattle.packet.specs.Split.{token_in}
-use Rattle.packet.specs.Header.{Header, zero_rtt, handshake, negotiate, Outcome, is_long, refused_header, listed, unfixed, headed, initial_at, length_at, tail_at, body_at, long_at, short_at, first_at, outside, header_by}
+use Rattle.packet.specs.Header.{Header, initial, zero_rtt, handshake, retry, short, negotiate, Outcome, is_long, refused_header, listed, unfixed, headed, initial_at, length_at, tail_at, body_at, long_at, short_at, first_at, outside, header_by}
 
 abbrev placed : ℕ → ℕ → Place
 placed start len = record { start = start; len = len }
@@ -59,8 +59,17 @@ module _ (s : List ℕ) where
   Placed true o = InLong o o.end
   Placed false o = InShort o
 
+  -- an Initial's end before its token
+  abbrev pub Apart : Header → Outcome → Type 0
+  Apart (initial token len) o = 7 + o.dst.len + o.src.len ≤ token.start
+  Apart (zero_rtt len) o = Unit
+  Apart (handshake len) o = Unit
+  Apart retry o = Unit
+  Apart (short spin) o = Unit
+  Apart (negotiate bits) o = Unit
+
   abbrev pub Stand : Answer Header → Outcome → Type 0
-  Stand (ok x) o = Placed (is_long (ok x)) o × ((token_in (ok x)).start + (token_in (ok x)).len ≤ o.end)
+  Stand (ok x) o = Placed (is_long (ok x)) o × (((token_in (ok x)).start + (token_in (ok x)).len ≤ o.end) × Apart x o)
   Stand (no k) o = (k ≡ 0 → ⊥) × ((k ≡ 4 → (end : ℕ) × InLong o end) × ((k ≡ 4 → ⊥) → Unread o))
 
   abbrev pub Stands : Outcome → Type 0
@@ -90,10 +99,10 @@ module _ (s : List ℕ) where
         let i = var_inside s at n start e in
         let j = take_inside n s start token next f in
         let k = var_inside s next len end g in
-        (long _ end refl refl (omega (arith, i, j, k)), omega (arith, j, k)))))
-    tail_stands type.zero_rtt = length_stands zero_rtt (λ len end h. (long _ end refl refl h, omega arith))
-    tail_stands type.handshake = length_stands handshake (λ len end h. (long _ end refl refl h, omega arith))
-    tail_stands type.retry = (long _ at refl refl (omega arith), omega arith)
+        (long _ end refl refl (omega (arith, i, j, k)), (omega (arith, j, k), omega (arith, past, i, j))))))
+    tail_stands type.zero_rtt = length_stands zero_rtt (λ len end h. (long _ end refl refl h, (omega arith, tt)))
+    tail_stands type.handshake = length_stands handshake (λ len end h. (long _ end refl refl h, (omega arith, tt)))
+    tail_stands type.retry = (long _ at refl refl (omega arith), (omega arith, tt))
 
     body_stands : (types : ℕ → ℕ → PacketType) (steer rest : ℕ) (versions : List ℕ) → Stands (body_at types steer rest s versions v dst src at)
     unfolding body_at headed
@@ -101,7 +110,7 @@ module _ (s : List ℕ) where
         let unlisted : Outcome = record { said = no 4; dst = dst; src = src; version = v; end = 0 } in
         let negotiation : Outcome = headed dst src v (negotiate (steer % 8 * 16 + rest)) at in
         let tail : Outcome = tail_at (types v (steer % 4)) (headed dst src v) s at in
-        if_all Stands (eqb v 0) negotiation (if listed versions v then tail else unlisted) (λ b. (long _ at refl refl (omega arith), omega arith)) (λ b.
+        if_all Stands (eqb v 0) negotiation (if listed versions v then tail else unlisted) (λ b. (long _ at refl refl (omega arith), (omega arith, tt))) (λ b.
         if_all Stands (listed versions v) tail unlisted (λ c. tail_stands (types v (steer % 4))) (λ c.
         (λ z. omega (arith, z), (λ e. (at, long _ at refl refl (omega arith)), λ e. absurd (e refl)))))
 
@@ -135,7 +144,7 @@ module _ (s : List ℕ) where
             from = refl;
             past = omega (arith, i, a.0);
           },
-          omega arith,
+          (omega arith, tt),
         ))
 
     pub header_stands : (local : ℕ) (versions : List ℕ) (grease : Bool) → Stands (header_by types s local versions grease)

@@ -193,15 +193,19 @@ module _ (r : Result ℕ Refusal) (xs bs : List ℕ) (e : answer_of r ≡ length
       go true false a b h = let z : ◌≡◌ {A = ℕ} 0 1 = cc in absurd (omega arith)
       go false u a b h = let z : ◌≡◌ {A = ℕ} 0 1 = cc in absurd (omega arith)
 
-  -- a refusal, and so with more bytes after the integers
-  pub size_not : (why : Refusal) (cs : List ℕ) → r ≡ Err why → length bs ≤ length cs → vars_out xs cs ≡ no (number_of why)
+  -- a refusal is 14, and so it is with more bytes after the integers
+  pub size_14 : (why : Refusal) (cs : List ℕ) → r ≡ Err why → length bs ≤ length cs → (number_of why ≡ 14) × (vars_out xs cs ≡ no 14)
   unfolding answer_of length_of vars_out limited in_frame
-  size_not why cs q l = go (below62 xs) (leb (length all) 65527) refl refl (rw q at e)
+  size_14 why cs q l = go (below62 xs) (leb (length all) 65527) refl refl (rw q at e)
     where
       go : (t u : Bool) → below62 xs ≡ t → leb (length all) 65527 ≡ u
-          → no (number_of why) ≡ length_of (if t then (if u then ok all else no 14) else no 14) → vars_out xs cs ≡ no (number_of why)
+          → no (number_of why) ≡ length_of (if t then (if u then ok all else no 14) else no 14) → (number_of why ≡ 14) × (vars_out xs cs ≡ no 14)
       go true true a b h = let z : ◌≡◌ {A = ℕ} 0 1 = cc in absurd (omega arith)
       go true false a b h =
           let k : number_of why ≡ 14 = cc in
-          rw k (out_long xs cs (omega (arith, leb-false (length all) 65527 b, length_out xs bs)))
-      go false u a b h = let k : number_of why ≡ 14 = cc in rw k (out_past xs cs a)
+          (k, out_long xs cs (omega (arith, leb-false (length all) 65527 b, length_out xs bs)))
+      go false u a b h = let k : number_of why ≡ 14 = cc in (k, out_past xs cs a)
+
+  -- the same by the refusal's number
+  pub size_not : (why : Refusal) (cs : List ℕ) → r ≡ Err why → length bs ≤ length cs → vars_out xs cs ≡ no (number_of why)
+  size_not why cs q l = let h = size_14 why cs q l in rw h.0 h.1

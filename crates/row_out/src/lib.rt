@@ -11,6 +11,7 @@ use coding::{MAX_DATAGRAM, Refusal, VarInt};
 
 // The bytes of integers, or 14: one is past 2^62 - 1, or they are more than a frame has.
 #[tactic(auto, unfolding(crate::specs::Limits::below62, crate::specs::Limits::vars_bytes))]
+#[inline(always)]
 pub fn vars_len(vals: &[u64]) -> Result<usize, Refusal>
     ensures { answer_of result ≡ length_of (vars_out vals.now []) }
 {
@@ -24,7 +25,9 @@ pub fn vars_len(vals: &[u64]) -> Result<usize, Refusal>
     Ok(n)
 }
 
-// Puts integers for which there is room.
+// Puts integers for which there is room. Not inlined, so that what calls it is small enough to be: how many integers a frame
+// has is then known where their bytes are counted.
+#[inline(never)]
 fn put_each(buf: &mut [u8], at: usize, vals: &[u64]) -> usize
     requires { (below62 vals.now ≡ true) × (at + length (vars_bytes vals.now) ≤ length buf.old) }
     ensures { Put (vars_bytes vals.now) buf.old at result buf.new }
@@ -50,6 +53,7 @@ pub fn put_vars(buf: &mut [u8], at: usize, vals: &[u64]) -> usize
 }
 
 // How many integers and then bytes make a frame, or 14.
+#[inline(always)]
 pub fn frame_size(vals: &[u64], bytes: &[u8]) -> Result<usize, Refusal>
     ensures { answer_of result ≡ length_of (vars_out vals.now bytes.now) }
 {
@@ -61,6 +65,7 @@ pub fn frame_size(vals: &[u64], bytes: &[u8]) -> Result<usize, Refusal>
 }
 
 // Writes integers and then bytes, from byte 0 of buf on.
+#[inline(always)]
 pub fn frame_of(vals: &[u64], bytes: &[u8], buf: &mut [u8]) -> Result<usize, Refusal>
     ensures { Written (vars_out vals.now bytes.now) buf.old (answer_of result) buf.new }
 {
