@@ -1,6 +1,8 @@
 // Prints the packets of one datagram, read on standard input (document 01, "The dump program").
 #![tactic(auto)]
 
+ghost use Rattle.std.specs.Prelude.{◌≤◌, length, IfOk};
+
 use std::io;
 use std::io::{Print, Read, Stdin};
 
@@ -11,7 +13,9 @@ const DATAGRAM: usize = 65528;
 const TEXT: usize = 262176;
 
 // Reads until buf is full or the input ends, and answers what was read.
-fn read_full(mut from: Stdin, buf: &mut [u8]) -> io::Result<&[u8]> {
+fn read_full(mut from: Stdin, buf: &mut [u8]) -> io::Result<&[u8]>
+    ensures { IfOk result (λ s. length s.now ≤ length buf.old) }
+{
     let mut n = 0;
     // read_exact would refuse a shorter input
     while n < buf.len() {

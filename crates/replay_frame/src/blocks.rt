@@ -86,12 +86,12 @@ pub(crate) fn ecn(ns: Numbers, out: &mut Out) {
     let Some(point) = EcnCodepoint::from_bits(bits) else {
         return out.say(Ok(Answer::Nothing));
     };
-    let mut counts = EcnCounts {
+    let counts = EcnCounts {
         ect0: ns.n0,
         ect1: ns.n1,
         ce: ns.n2,
     };
-    let raised = counts.add_assign(point);
+    let (counts, raised) = ecn::raised(counts, point);
     out.say(raised.map(|_| Answer::Done));
     out.and_nums(&[counts.ect0, counts.ect1, counts.ce]);
 }

@@ -5,7 +5,9 @@ mod encoders; // encoders.rt: the encoders
 mod leaf; // leaf.rt: the codecs beside them, the sizes
 
 use cases::line::{Answer, Out};
+use cases::record::Record;
 use cases::{record, stdio};
+use coding::{Place, part};
 
 // Puts the answer of an operation to a record's fields.
 fn answer(op: u8, rec: &[u8], work: &mut [u8], out: &mut Out) {
@@ -20,7 +22,21 @@ fn answer(op: u8, rec: &[u8], work: &mut [u8], out: &mut Out) {
     }
 }
 
+// The loop stands here: a public function that is handed a closure would have to require that it can be called.
 fn main(rt: HostRuntime) {
+    let mut buf = stdio::room();
     let mut work = stdio::room();
-    stdio::run(rt, |op, rec, out| answer(op, rec, &mut work, out));
+    let mut out = Out::new(rt.stdout());
+    for count in 0..stdio::MOST {
+        match stdio::next(rt.stdin(), &mut buf) {
+            Ok(Some(Record { op, len })) => {
+                answer(op, part(&buf, Place { start: 0, len }), &mut work, &mut out);
+                out.end_line();
+            }
+            ended => {
+                out.end(ended, count);
+                return;
+            }
+        }
+    }
 }

@@ -8,8 +8,9 @@ mod numbers; // numbers.rt: number_step
 mod packets; // packets.rt: split, sample_place and unmask
 
 use cases::line::{Answer, Out};
+use cases::record::Record;
 use cases::stdio;
-use coding::Place;
+use coding::{Place, part};
 use gateway_frame::Span;
 
 // The bytes at a place, after a space.
@@ -32,7 +33,21 @@ fn answer(op: u8, rec: &[u8], work: &mut [u8], out: &mut Out) {
     }
 }
 
+// The loop stands here: a public function that is handed a closure would have to require that it can be called.
 fn main(rt: HostRuntime) {
+    let mut buf = stdio::room();
     let mut work = stdio::room();
-    stdio::run(rt, |op, rec, out| answer(op, rec, &mut work, out));
+    let mut out = Out::new(rt.stdout());
+    for count in 0..stdio::MOST {
+        match stdio::next(rt.stdin(), &mut buf) {
+            Ok(Some(Record { op, len })) => {
+                answer(op, part(&buf, Place { start: 0, len }), &mut work, &mut out);
+                out.end_line();
+            }
+            ended => {
+                out.end(ended, count);
+                return;
+            }
+        }
+    }
 }

@@ -6,9 +6,9 @@ mod one_space; // one_space.rt: a run of steps over one space
 mod three_spaces; // three_spaces.rt: a run of steps over the record of three
 
 use cases::line::{Answer, Out};
-use cases::record::Numbers;
+use cases::record::{Numbers, Record};
 use cases::{record, stdio};
-use coding::Refusal;
+use coding::{Place, Refusal, part};
 
 // The operations that answer with a word and numbers.
 fn said(op: u8, ns: Numbers, b: &[u8]) -> Result<Answer, Refusal> {
@@ -34,7 +34,21 @@ fn answer(op: u8, rec: &[u8], work: &mut [u8], out: &mut Out) {
     }
 }
 
+// The loop stands here: a public function that is handed a closure would have to require that it can be called.
 fn main(rt: HostRuntime) {
+    let mut buf = stdio::room();
     let mut work = stdio::room();
-    stdio::run(rt, |op, rec, out| answer(op, rec, &mut work, out));
+    let mut out = Out::new(rt.stdout());
+    for count in 0..stdio::MOST {
+        match stdio::next(rt.stdin(), &mut buf) {
+            Ok(Some(Record { op, len })) => {
+                answer(op, part(&buf, Place { start: 0, len }), &mut work, &mut out);
+                out.end_line();
+            }
+            ended => {
+                out.end(ended, count);
+                return;
+            }
+        }
+    }
 }

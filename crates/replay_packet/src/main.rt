@@ -5,7 +5,9 @@ mod header; // header.rt: a header's text
 mod reading; // reading.rt: header decode, split, walk, dump
 
 use cases::line::{Answer, Out};
+use cases::record::Record;
 use cases::stdio;
+use coding::{Place, part};
 
 // Puts the answer of an operation to a record's fields.
 fn answer(op: u8, rec: &[u8], out: &mut Out) {
@@ -16,6 +18,20 @@ fn answer(op: u8, rec: &[u8], out: &mut Out) {
     }
 }
 
+// The loop stands here: a public function that is handed a closure would have to require that it can be called.
 fn main(rt: HostRuntime) {
-    stdio::run(rt, answer);
+    let mut buf = stdio::room();
+    let mut out = Out::new(rt.stdout());
+    for count in 0..stdio::MOST {
+        match stdio::next(rt.stdin(), &mut buf) {
+            Ok(Some(Record { op, len })) => {
+                answer(op, part(&buf, Place { start: 0, len }), &mut out);
+                out.end_line();
+            }
+            ended => {
+                out.end(ended, count);
+                return;
+            }
+        }
+    }
 }

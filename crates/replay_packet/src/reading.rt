@@ -112,10 +112,9 @@ pub(crate) fn dump(rec: &[u8], out: &mut Out) {
     let text = &mut out.text[at..at + room as usize];
     match dump_text::dump(record::bytes(rec, 0), text) {
         Ok(n) => {
+            // stored in either case, so that the compiler takes many at a time
             for c in text.iter_mut().take(n) {
-                if *c == b'\n' {
-                    *c = b';';
-                }
+                *c = if *c == b'\n' { b';' } else { *c };
             }
             out.at = at.saturating_add(n);
         }

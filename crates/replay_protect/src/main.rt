@@ -4,7 +4,9 @@
 mod opening; // opening.rt: the sample's place, and finish
 
 use cases::line::{Answer, Out};
+use cases::record::Record;
 use cases::stdio;
+use coding::{Place, part};
 
 // Puts the answer of an operation to a record's fields.
 fn answer(op: u8, rec: &[u8], work: &mut [u8], out: &mut Out) {
@@ -15,7 +17,21 @@ fn answer(op: u8, rec: &[u8], work: &mut [u8], out: &mut Out) {
     }
 }
 
+// The loop stands here: a public function that is handed a closure would have to require that it can be called.
 fn main(rt: HostRuntime) {
+    let mut buf = stdio::room();
     let mut work = stdio::room();
-    stdio::run(rt, |op, rec, out| answer(op, rec, &mut work, out));
+    let mut out = Out::new(rt.stdout());
+    for count in 0..stdio::MOST {
+        match stdio::next(rt.stdin(), &mut buf) {
+            Ok(Some(Record { op, len })) => {
+                answer(op, part(&buf, Place { start: 0, len }), &mut work, &mut out);
+                out.end_line();
+            }
+            ended => {
+                out.end(ended, count);
+                return;
+            }
+        }
+    }
 }

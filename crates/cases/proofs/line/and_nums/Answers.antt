@@ -7,7 +7,7 @@ use mathlib.Core.List.{[]}
 use lib.ListN.{length, drop}
 use lib.Seq.{drop-length}
 use native.Mathlib.Omega.{arith}
-use Rattle.cases.proofs.line.Out.and_nums.Goals as goal
+use Rattle.cases.proofs.line.and_nums.Goals as goal
 
 pub loop-n-init : goal.loop-n-init
 loop-n-init c = refl
@@ -16,7 +16,7 @@ pub loop-n-preserved : goal.loop-n-preserved
 loop-n-preserved c =
     let l = c.loop-n in
     let a = c.args in
-    l.invariant ∙ nums_more a.ns.now l.n-index _ (omega arith) ∙ ap (puts (and_nums (drop (l.n-index + 1) a.ns.now))) (sym c.and_num.ensures)
+    l.invariant ∙ nums_more a.ns.now l.n-index _ (omega arith) ∙ ap (puts (and_nums (drop (l.n-index + 1) a.ns.now))) (sym c.and_num-p.ensures)
 
 pub returns : goal.returns
 unfolding and_nums puts

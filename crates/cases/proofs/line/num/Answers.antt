@@ -1,0 +1,5 @@
+use Rattle.text.proofs.Puts.{pieces}
+use Rattle.cases.proofs.line.num.Goals as goal
+
+pub returns : goal.returns
+returns c = search pieces depth 40 fits 4000
