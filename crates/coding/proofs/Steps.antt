@@ -60,12 +60,13 @@ set_sets (a ∷ ys) l j k y h =
     ∙ ap (λ (r : List ℕ). sets r (suc k) ys) (set_comm l k j a y (λ e. omega arith))
 
 -- one byte more, in front
-pub put_more : (l : List ℕ) (n x i j : ℕ) → i ≡ suc j → i ≤ n
-    → set (sets l i (bytes_be (n - i) x)) j (x / 256 ^ (n - i) % 256) ≡ sets l j (bytes_be (n - j) x)
+pub put_more : (l : List ℕ) (at n x i : ℕ) → 0 < i → i ≤ n
+    → set (sets l (at + i) (bytes_be (n - i) x)) (at + (i - 1)) (x / 256 ^ (n - i) % 256) ≡ sets l (at + (i - 1)) (bytes_be (n - (i - 1)) x)
 unfolding bytes_be
-put_more l n x i j p k =
-    let e : n - j ≡ suc (n - suc j) = omega arith in
-    rw (p, e) (set_sets (bytes_be (n - suc j) x) l j (suc j) (x / 256 ^ (n - suc j) % 256) (omega arith))
+put_more l at n x i h k =
+    let e : n - (i - 1) ≡ suc (n - i) = omega arith in
+    let p : at + i ≡ suc (at + (i - 1)) = omega arith in
+    rw (e, p) (set_sets (bytes_be (n - i) x) l (at + (i - 1)) (suc (at + (i - 1))) (x / 256 ^ (n - i) % 256) (omega arith))
 
 -- what is left of x to store
 pub rest_more : (n x i : ℕ) → 0 < i → i ≤ n → x / 256 ^ (n - i) / 256 ≡ x / 256 ^ (n - (i - 1))

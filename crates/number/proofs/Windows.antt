@@ -1,16 +1,16 @@
 -- Laws of the four windows, over the width.
-use Prim.Native.Nat.{ℕ, zero, suc, ◌+◌, ◌-◌, ◌*◌, ◌^◌, ◌≤◌, ◌<◌}
+use Prim.Native.Nat.{ℕ, zero, suc, ◌+◌, ◌-◌, ◌*◌, ◌/◌, ◌%◌, ◌^◌, ◌≤◌, ◌<◌}
 use Rattle.std.specs.Prelude.{Some, None, if◌then◌else◌}
 use native.Mathlib.Numerals.{add-one}
 use mathlib.Core.Path.{◌≡◌, refl, sym, ap, ◌∙◌}
 use mathlib.Core.Bool.{Bool, true, false}
 use mathlib.Core.Logic.{◌⊎◌, inl, inr, ⊎_elim}
-use native.Mathlib.Nat.{two-pow-succ, pow-succ'}
+use native.Mathlib.Nat.{two-pow-succ, pow-succ', div-eq_of_lt, div-add-mod', mod-lt}
 use native.Mathlib.Omega.{arith}
 use Rattle.std.proofs.lemmas.Bool.{cases_lt}
 use lib.Dec.{ltb, eqb}
 use lib.Pow.{pow_mono, pow-add}
-use borrow.Author.Tests.{ltb-true, ltb-false, eqb-false, lt-ltb, le-ltb, ne_eqb}
+use borrow.Author.Tests.{ltb-true, ltb-false, eqb-false, lt-ltb, le-ltb, eq-eqb, ne_eqb}
 use Rattle.shared.specs.declared.kinds.CutNumber.{CutNumber}
 use Rattle.number.specs.Cutting.{window_of, is_cut, first_fit, bytes_for}
 use Rattle.number.specs.Said.{fitting}
@@ -87,6 +87,26 @@ unfolding is_cut
 cut_rule c e =
     let v : c.1 < window_of c.0 = ltb-true _ _ e in
     record { window = window_some c.0 (omega arith); value = v }
+
+-- and how it is tested: no value past the window
+no_more : (v w : ℕ) → 0 < w → eqb (v / w) 0 ≡ ltb v w
+no_more v w p =
+    ⊎_elim
+    (λ a. ne_eqb (v / w) 0 (λ z. absurd (omega (arith, a, small z))) ∙ sym (le-ltb v w a))
+    (λ a. eq-eqb (v / w) 0 (div-eq_of_lt a) ∙ sym (lt-ltb v w a))
+    (le? w v)
+  where
+    small : v / w ≡ 0 → v < w
+    small z =
+        let e : v / w * w + v % w ≡ v = div-add-mod' v w in
+        let f : 0 * w + v % w ≡ v = rw z at e in
+        omega (arith, f, mod-lt v p)
+
+pub cut_test : (c : CutNumber) → 1 ≤ c.0 → c.0 ≤ 4 → eqb (c.1 / 2 ^ (8 * c.0)) 0 ≡ is_cut c
+unfolding is_cut
+cut_test c p q =
+    let w = window_made c.0 p q in
+    rw w.is (no_more c.1 (2 ^ (8 * c.0)) (omega (arith, w)))
 
 -- ---- 17.1: the fewest of the lengths from low on with more than t values
 

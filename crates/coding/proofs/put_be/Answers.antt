@@ -1,8 +1,7 @@
 use native.Mathlib.Omega.{arith}
 use borrow.Author.Rules.{rules}
-use native.Mathlib.Nat.{sub_self, div-one}
+use native.Mathlib.Nat.{sub_self, sub-zero, add-zero, div-one}
 use mathlib.Core.Path.{◌≡◌, ◌∙◌}
-use Prim.Native.Nat.{◌+◌, ◌-◌}
 use Rattle.coding.specs.Bytes.{bytes_be}
 use Rattle.coding.proofs.Laws.{length_bytes_be}
 use Rattle.coding.proofs.Steps.{put_more, rest_more, sets_splice}
@@ -10,7 +9,7 @@ use Rattle.coding.proofs.put_be.Goals as goal
 
 pub loop-i-init : goal.loop-i-init
 unfolding bytes_be
-loop-i-init c = (omega arith, (search rules, (simp sub_self, simp (sub_self, div-one))))
+loop-i-init c = (search rules, (simp sub_self, simp (sub_self, div-one)))
 
 pub loop-i-preserved : goal.loop-i-preserved
 loop-i-preserved c =
@@ -19,18 +18,14 @@ loop-i-preserved c =
     let a = c.args in (
       omega arith,
       (
-        omega arith,
-        (
-          rw (i.1.1.0, i.1.1.1) (put_more a.buf.now (a.at + a.n) a.x l.i (l.i - 1) (omega arith) (omega arith)),
-          rw i.1.1.1 (rest_more (a.at + a.n) a.x l.i (omega arith) (omega arith)),
-        ),
+        rw (i.1.0, i.1.1) (put_more a.buf.now a.at a.n a.x l.i (omega arith) i.0),
+        rw i.1.1 (rest_more a.n a.x l.i (omega arith) i.0),
       ),
     )
 
 pub returns : goal.returns
 returns c =
-    let l = c.loop-i in
     let a = c.args in
-    let e : l.i ≡ a.at = omega arith in
-    let n : a.at + a.n - a.at ≡ a.n = omega arith in
-    l.invariant.1.1.0 ∙ simp (e, n) (sets_splice a.buf.now (bytes_be a.n a.x) a.at (simp length_bytes_be c.requires))
+    let e : c.loop-i.i ≡ 0 = omega arith in
+    c.loop-i.invariant.1.0
+    ∙ simp (e, add-zero, sub-zero) (sets_splice a.buf.now (bytes_be a.n a.x) a.at (simp length_bytes_be c.requires))

@@ -1,7 +1,7 @@
 use mathlib.Core.Path.{sym, ◌∙◌}
 use Rattle.std.proofs.lemmas.Result.{err_from_is_err_and}
 use Rattle.packet_out.specs.Said.{encoded_of}
-use Rattle.gateway.proofs.HeaderWrites.{encodes_no, outside_kind, outside_by, for_no, for_ok}
+use Rattle.gateway.proofs.HeaderWrites.{encodes_no, outside_kind, outside_lengths, outside_by, for_no, for_ok}
 use Rattle.gateway.proofs.headers.write.Goals as goal
 
 pub returns-in_err-plain : goal.returns-in_err-plain
@@ -13,7 +13,7 @@ returns-in_err-plain c =
 
 pub returns-then-are_outside : goal.returns-then-are_outside
 unfolding encoded_of
-returns-then-are_outside c = encodes_no _ _ (for_no _ _ _ _ _ (outside_by _ _ _ _ _ c.in_ok-plain.ensures.0 ∙ sym c.are_outside.ensures ∙ c.if-are_outside.true))
+returns-then-are_outside c = encodes_no _ _ (for_no _ _ _ _ _ (outside_lengths _ _ _ _ _ (sym c.are_outside.ensures ∙ c.if-are_outside.true)))
 
 pub returns : goal.returns
 returns c =
