@@ -1,5 +1,8 @@
 -- Only one answer, and only one content of each lent buffer, meets the contract of each public function.
 use mathlib.Core.Path.{◌≡◌, refl, sym, ◌∙◌}
+use mir.Syntax.{Dict}
+use denote.Param.Laws.{Laws}
+use denote.RattleType.{RattleType}
 use mathlib.Core.List.{List}
 use Prim.Native.Nat.{ℕ}
 use Rattle.coding.specs.Once.{Once}
@@ -64,6 +67,8 @@ use Rattle.cases.specs.contracts.stdio.end_line as end_line
 use Rattle.cases.proofs.stdio.end_line.Reads as end-line-reads
 use Rattle.cases.specs.contracts.stdio.end as end
 use Rattle.cases.proofs.stdio.end.Reads as end_reads
+use Rattle.cases.specs.contracts.stdio.run as run
+use Rattle.cases.proofs.stdio.run.Reads as run-reads
 use Rattle.cases.specs.contracts.line.Out.num as out-num
 use Rattle.cases.proofs.line.Out.num.Reads as out-num-reads
 use Rattle.cases.specs.contracts.line.Out.hex as out-hex
@@ -202,6 +207,12 @@ end_line_once κs a x y s t p q i = ((p.says ∙ sym q.says) i, (p.leaves ∙ sy
 end_once : Once {B = ℕ × List ℕ} end.ended end_reads.Post (λ κs x s. (x, s.1.0.now))
 unfolding Once
 end_once κs a x y s t p q = p ∙ sym q
+
+-- a run answers nothing
+module _ (F : RattleType) (laws : Laws F) (g : run.F-FnMut.Ghosts F) (d e f : Dict) where
+  run_once : Once (run.ended F g d e f) (run-reads.Post F laws g d e f) (λ κs x s. x)
+  unfolding Once
+  run_once κs a x y s t p q = refl
 
 -- ---- the text so far
 

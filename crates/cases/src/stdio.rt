@@ -9,7 +9,7 @@ ghost use Rattle.cases.specs.Lines.{end_line};
 ghost use Rattle.cases.specs.Said.{case_of};
 ghost use Rattle.cases.specs.Stdio.{Zeros, fields_in, kept, LineEnded};
 
-use crate::line;
+use crate::line::{self, Out};
 use crate::record::{self, Record};
 use coding::{Place, UnexpectedEnd, part, put_slice};
 use std::io::{Print, Read, Stdin, Stdout};
@@ -99,4 +99,32 @@ pub fn end(
     let p = line::end(out, at, t, count);
     write_out(to, out, p);
     p
+}
+
+// Puts an answer's text to each record, by its operation and its fields, and ends its line.
+fn each<F: FnMut(u8, &[u8], &mut Out)>(from: Stdin, mut answer: F, buf: &mut [u8], out: &mut Out)
+    requires { F.IsAlwaysCallable answer }
+{
+    for count in 0..MOST {
+        match next(from, buf) {
+            Ok(Some(Record { len, op })) => {
+                answer(op, &buf[..len], out);
+                out.end_line();
+            }
+            ended => {
+                out.end(ended, count);
+                return;
+            }
+        }
+    }
+}
+
+// A whole run of a program, by its answer to a record. It is the one public function with a `requires`: that the closure which it
+// is handed can be called.
+pub fn run<F: FnMut(u8, &[u8], &mut Out)>(rt: HostRuntime, answer: F)
+    requires { F.IsAlwaysCallable answer }
+{
+    let mut buf = room();
+    let mut out = Out::new(rt.stdout());
+    each(rt.stdin(), answer, &mut buf, &mut out);
 }

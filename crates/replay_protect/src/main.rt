@@ -17,7 +17,7 @@ fn answer(op: u8, rec: &[u8], work: &mut [u8], out: &mut Out) {
     }
 }
 
-// The loop stands here: a public function that is handed a closure would have to require that it can be called.
+// The loop stands here: `stdio::run` is handed the answer as a closure, and has to require that the closure can be called.
 fn main(rt: HostRuntime) {
     let mut buf = stdio::room();
     let mut work = stdio::room();
