@@ -25,7 +25,7 @@ use Rattle.gateway.specs.Packets.{said_numbers, split_record, step_record}
 use Rattle.gateway.specs.GivesBack.{named, outcome_back, met_back, walk_step_back, SplitGivesBack, Holds, SplitHolds}
 use Rattle.gateway.proofs.Taken.{flag_back, flag_small}
 use Rattle.gateway.proofs.Answered.{read_as}
-use Rattle.gateway.proofs.Stands.{Placed, Stand, Stands, refused, header_stands}
+use Rattle.gateway.proofs.Stands.{Placed, Located, Stands, located, refused, header_stands}
 
 -- ---- the records
 
@@ -45,7 +45,7 @@ module _ (s : List ℕ) (start len : ℕ) (dst src : ConnectionId) (version end 
   cids_back x true e p = let r = read_as x in rw (r.back start len (saying (ok x)), r.form, e, r.done) (both _ p.to p.from)
   cids_back x false e p = let r = read_as x in rw (r.back start len (saying (ok x)), r.form, e) (both _ p.to (none_back s ∙ sym p.from))
 
-  said_back : (a : Answer Header) → Stand s a (saying a) → outcome_back s (split_record start len (saying a)) ≡ saying a
+  said_back : (a : Answer Header) → Located s a (saying a) → outcome_back s (split_record start len (saying a)) ≡ saying a
   said_back (ok x) h = cids_back x (is_long (ok x)) refl h.0
   said_back (no k) h = rw (ne_eqb k 0 h.0) (go (eqb k 4) refl)
     where
@@ -54,7 +54,7 @@ module _ (s : List ℕ) (start len : ℕ) (dst src : ConnectionId) (version end 
       go true q = let w = (h.1.0 (eqb-true k 4 q)).1 in both _ w.to w.from
       go false q = let w = h.1.1 (eqb-false k 4 q) in both _ (none_back s ∙ sym w.to) (none_back s ∙ sym w.from)
 
-  met_back_law : (a : Answer Header) → Stand s a (saying a) → met_back (step_record start (record { met = met_on a start len; header = saying a })) ≡ met_on a start len
+  met_back_law : (a : Answer Header) → Located s a (saying a) → met_back (step_record start (record { met = met_on a start len; header = saying a })) ≡ met_on a start len
   unfolding met_on
   met_back_law (ok x) h = let k : (said_numbers (ok x)).kind ≡ 6 → ⊥ = λ e. omega (arith, e, (read_as x).few) in rw (ne_eqb (said_numbers (ok x)).kind 6 k)
   met_back_law (no k) h = rw (ne_eqb k 0 h.0)
@@ -84,7 +84,7 @@ past = record { met = at_end; header = refused_header 1 }
 
 module _ (s : List ℕ) (at : ℕ) where
   -- a step that says a, over a packet of len bytes
-  on_back : (len : ℕ) (dst src : ConnectionId) (version end : ℕ) (a : Answer Header) → Stand (drop at s) a (saying (drop at s) at len dst src version end a)
+  on_back : (len : ℕ) (dst src : ConnectionId) (version end : ℕ) (a : Answer Header) → Located (drop at s) a (saying (drop at s) at len dst src version end a)
       → walk_step_back s (step_record at (record { met = met_on a at len; header = saying (drop at s) at len dst src version end a }))
       ≡ record { met = met_on a at len; header = saying (drop at s) at len dst src version end a }
   unfolding met_on
@@ -93,7 +93,7 @@ module _ (s : List ℕ) (at : ℕ) where
   on_back len dst src version end (no k) h = λ i.
       record { met = met_back_law (drop at s) at len dst src version end (no k) h i; header = said_back (drop at s) at 0 dst src version end (no k) h i }
 
-  outcome_back_law : (len : ℕ) (o : Outcome) → Stands (drop at s) o
+  outcome_back_law : (len : ℕ) (o : Outcome) → Located (drop at s) o.said o
       → walk_step_back s (step_record at (record { met = met_on o.said at len; header = o })) ≡ record { met = met_on o.said at len; header = o }
   outcome_back_law len o h = on_back len o.dst o.src o.version o.end o.said h
 
@@ -121,7 +121,7 @@ module _ (s : List ℕ) (at : ℕ) where
         if_all Back (outside s local versions) (stop_at at 14) (if eqb (length s) 0 then stop_at at 1 else ended)
         (λ b. stop_back 14 refl refl) (λ b.
         if_all Back (eqb (length s) 0) (stop_at at 1) ended (λ c. stop_back 1 refl refl) (λ c.
-        if_all Back (leb (length s) at) past (step_on at x) (λ d. end_back) (λ d. outcome_back_law x.packet.len x.header split_stands)))
+        if_all Back (leb (length s) at) past (step_on at x) (λ d. end_back) (λ d. outcome_back_law x.packet.len x.header (located (drop at s) x.header.said x.header split_stands))))
 
 pub split_back : SplitGivesBack
 split_back s at local versions grease = rw (flag_small grease, flag_back grease) (step_back s at local versions grease)
@@ -129,7 +129,7 @@ split_back s at local versions grease = rw (flag_small grease, flag_back grease)
 -- ---- where there is a packet
 
 module _ (s : List ℕ) (at len : ℕ) (dst src : ConnectionId) (version end : ℕ) (p : at + len ≤ length s) (q : end ≤ len) where
-  header_holds : (x : Header) → Stand (drop at s) (ok x) (saying (drop at s) at len dst src version end (ok x))
+  header_holds : (x : Header) → Located (drop at s) (ok x) (saying (drop at s) at len dst src version end (ok x))
       → Holds s (split_record at len (saying (drop at s) at len dst src version end (ok x)))
   header_holds x h = by_form (is_long (ok x)) refl h.0
     where
@@ -137,10 +137,10 @@ module _ (s : List ℕ) (at len : ℕ) (dst src : ConnectionId) (version end : �
           → Holds s (split_record at len (saying (drop at s) at len dst src version end (ok x)))
       by_form true e w =
           let r = read_as x in
-          rw (r.form, e, r.done, r.token) (record { packet = p; to = omega (arith, w); from = omega (arith, w); token = h.1.0; number = q })
+          rw (r.form, e, r.done, r.token) (record { packet = p; to = omega (arith, w); from = omega (arith, w); token = h.1; number = q })
       by_form false e w =
           let r = read_as x in
-          rw (r.form, e, r.token) (record { packet = p; to = omega (arith, w); from = omega arith; token = h.1.0; number = q })
+          rw (r.form, e, r.token) (record { packet = p; to = omega (arith, w); from = omega arith; token = h.1; number = q })
 
 module _ (s : List ℕ) (at local : ℕ) (versions : List ℕ) (grease : Bool) where
   abbrev Inside : PacketStep → Type 0
@@ -150,7 +150,7 @@ module _ (s : List ℕ) (at local : ℕ) (versions : List ℕ) (grease : Bool) w
   unfolding stop_at
   stop_inside k h = absurd (omega (arith, h))
 
-  on_inside : (len : ℕ) (dst src : ConnectionId) (version end : ℕ) (a : Answer Header) → Stand (drop at s) a (saying (drop at s) at len dst src version end a)
+  on_inside : (len : ℕ) (dst src : ConnectionId) (version end : ℕ) (a : Answer Header) → Located (drop at s) a (saying (drop at s) at len dst src version end a)
       → ((x : Header) → a ≡ ok x → (at + len ≤ length s) × (end ≤ len)) → Inside (record { met = met_on a at len; header = saying (drop at s) at len dst src version end a })
   unfolding met_on
   on_inside len dst src version end (no k) w f h = absurd (omega (arith, h))
@@ -160,7 +160,7 @@ module _ (s : List ℕ) (at local : ℕ) (versions : List ℕ) (grease : Bool) w
   unfolding step_on
   split_inside l =
       let o : Outcome = (split_at (drop at s) local versions grease).header in
-      on_inside _ o.dst o.src o.version o.end o.said (split_stands s at local versions grease) (λ x e.
+      on_inside _ o.dst o.src o.version o.end o.said (located (drop at s) o.said o (split_stands s at local versions grease)) (λ x e.
       let t = split_taken (drop at s) local versions grease x e in
       (omega (arith, l, t.inside, length-drop at s), t.past.end))
 

@@ -59,7 +59,12 @@ module _ (s : List ℕ) where
   Placed true o = InLong o o.end
   Placed false o = InShort o
 
-  -- an Initial's end before its token
+  -- the ids so, and the token before the header's end; or by the refusal
+  abbrev pub Located : Answer Header → Outcome → Type 0
+  Located (ok x) o = Placed (is_long (ok x)) o × ((token_in (ok x)).start + (token_in (ok x)).len ≤ o.end)
+  Located (no k) o = (k ≡ 0 → ⊥) × ((k ≡ 4 → (end : ℕ) × InLong o end) × ((k ≡ 4 → ⊥) → Unread o))
+
+  -- an Initial's ids end before its token
   abbrev pub Apart : Header → Outcome → Type 0
   Apart (initial token len) o = 7 + o.dst.len + o.src.len ≤ token.start
   Apart (zero_rtt len) o = Unit
@@ -69,8 +74,12 @@ module _ (s : List ℕ) where
   Apart (negotiate bits) o = Unit
 
   abbrev pub Stand : Answer Header → Outcome → Type 0
-  Stand (ok x) o = Placed (is_long (ok x)) o × (((token_in (ok x)).start + (token_in (ok x)).len ≤ o.end) × Apart x o)
-  Stand (no k) o = (k ≡ 0 → ⊥) × ((k ≡ 4 → (end : ℕ) × InLong o end) × ((k ≡ 4 → ⊥) → Unread o))
+  Stand (ok x) o = Located (ok x) o × Apart x o
+  Stand (no k) o = Located (no k) o
+
+  pub located : (a : Answer Header) (o : Outcome) → Stand a o → Located a o
+  located (ok x) o h = h.0
+  located (no k) o h = h
 
   abbrev pub Stands : Outcome → Type 0
   Stands o = Stand o.said o
@@ -99,10 +108,10 @@ module _ (s : List ℕ) where
         let i = var_inside s at n start e in
         let j = take_inside n s start token next f in
         let k = var_inside s next len end g in
-        (long _ end refl refl (omega (arith, i, j, k)), (omega (arith, j, k), omega (arith, past, i, j))))))
-    tail_stands type.zero_rtt = length_stands zero_rtt (λ len end h. (long _ end refl refl h, (omega arith, tt)))
-    tail_stands type.handshake = length_stands handshake (λ len end h. (long _ end refl refl h, (omega arith, tt)))
-    tail_stands type.retry = (long _ at refl refl (omega arith), (omega arith, tt))
+        ((long _ end refl refl (omega (arith, i, j, k)), omega (arith, j, k)), omega (arith, past, i, j)))))
+    tail_stands type.zero_rtt = length_stands zero_rtt (λ len end h. ((long _ end refl refl h, omega arith), tt))
+    tail_stands type.handshake = length_stands handshake (λ len end h. ((long _ end refl refl h, omega arith), tt))
+    tail_stands type.retry = ((long _ at refl refl (omega arith), omega arith), tt)
 
     body_stands : (types : ℕ → ℕ → PacketType) (steer rest : ℕ) (versions : List ℕ) → Stands (body_at types steer rest s versions v dst src at)
     unfolding body_at headed
@@ -110,7 +119,7 @@ module _ (s : List ℕ) where
         let unlisted : Outcome = record { said = no 4; dst = dst; src = src; version = v; end = 0 } in
         let negotiation : Outcome = headed dst src v (negotiate (steer % 8 * 16 + rest)) at in
         let tail : Outcome = tail_at (types v (steer % 4)) (headed dst src v) s at in
-        if_all Stands (eqb v 0) negotiation (if listed versions v then tail else unlisted) (λ b. (long _ at refl refl (omega arith), (omega arith, tt))) (λ b.
+        if_all Stands (eqb v 0) negotiation (if listed versions v then tail else unlisted) (λ b. ((long _ at refl refl (omega arith), omega arith), tt)) (λ b.
         if_all Stands (listed versions v) tail unlisted (λ c. tail_stands (types v (steer % 4))) (λ c.
         (λ z. omega (arith, z), (λ e. (at, long _ at refl refl (omega arith)), λ e. absurd (e refl)))))
 
@@ -139,12 +148,15 @@ module _ (s : List ℕ) where
         then_all Stands (take_at local s 1) _ _ (λ e. refused 6 refl refl) (λ to at e.
         let i = take_inside local s 1 to at e in
         let a = cid_at s to (omega (arith, i, few)) (omega (arith, i)) in (
-          record {
-            to = ap (λ (x : Place). cid_of (part_of s x)) (λ j. record { start = sym i.0.0 j; len = a.0 j }) ∙ a.1;
-            from = refl;
-            past = omega (arith, i, a.0);
-          },
-          (omega arith, tt),
+          (
+            record {
+              to = ap (λ (x : Place). cid_of (part_of s x)) (λ j. record { start = sym i.0.0 j; len = a.0 j }) ∙ a.1;
+              from = refl;
+              past = omega (arith, i, a.0);
+            },
+            omega arith,
+          ),
+          tt,
         ))
 
     pub header_stands : (local : ℕ) (versions : List ℕ) (grease : Bool) → Stands (header_by types s local versions grease)
